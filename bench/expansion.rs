@@ -1,0 +1,174 @@
+//! The expansion of random pairs with a modulus from 2^61 to 2^62: the proved call, and the same work in unverified Rust.
+
+use std::hint::black_box;
+use std::time::Instant;
+
+const ROWS: usize = 89;
+const PAIRS: usize = 4096;
+const REPETITIONS: usize = 101;
+
+/// The caller's memory: three columns and the last row's index.
+struct Memory {
+    remainders: [u64; ROWS],
+    denominators: [u64; ROWS],
+    quotients: [u64; ROWS],
+    last: u64,
+}
+
+const ZEROS: Memory =
+    Memory { remainders: [0; ROWS], denominators: [0; ROWS], quotients: [0; ROWS], last: 0 };
+
+type Expand = fn(u64, u64, &mut Memory) -> u32;
+
+extern "C" {
+    fn geyserdish_expand(
+        modulus: u64,
+        step: u64,
+        remainders: *mut u64,
+        denominators: *mut u64,
+        quotients: *mut u64,
+        last: *mut u64,
+    ) -> u32;
+}
+
+fn proved(modulus: u64, step: u64, to: &mut Memory) -> u32 {
+    unsafe {
+        geyserdish_expand(
+            modulus,
+            step,
+            to.remainders.as_mut_ptr(),
+            to.denominators.as_mut_ptr(),
+            to.quotients.as_mut_ptr(),
+            &mut to.last,
+        )
+    }
+}
+
+/// The refusals of the call, unverified.
+#[inline(always)]
+fn refusal(modulus: u64, step: u64) -> u32 {
+    if modulus < 2 || modulus > 1 << 62 {
+        1
+    } else if step >= modulus {
+        2
+    } else {
+        0
+    }
+}
+
+/// The loop of the call, unverified: fills columns of zeros, answers the last row's index.
+#[inline(always)]
+fn fill(
+    modulus: u64,
+    step: u64,
+    remainders: &mut [u64; ROWS],
+    denominators: &mut [u64; ROWS],
+    quotients: &mut [u64; ROWS],
+) -> usize {
+    let (mut before, mut remainder, mut denominator_before, mut denominator) = (modulus, step, 0u64, 1u64);
+    let mut row = 0;
+    while remainder != 0 {
+        let quotient = before / remainder;
+        let rest = before % remainder;
+        remainders[row] = remainder;
+        denominators[row] = denominator;
+        quotients[row] = quotient;
+        (before, remainder) = (remainder, rest);
+        (denominator_before, denominator) = (denominator, denominator_before + quotient * denominator);
+        row += 1;
+    }
+    denominators[row] = denominator;
+    row
+}
+
+/// Local arrays, a struct made of them at the end and answered by value, then handed over.
+mod by_value {
+    use super::{fill, refusal, Memory, ROWS};
+
+    struct Table {
+        remainders: [u64; ROWS],
+        denominators: [u64; ROWS],
+        quotients: [u64; ROWS],
+        last: usize,
+    }
+
+    struct Answer {
+        table: Table,
+        refusal: u32,
+    }
+
+    fn expand(modulus: u64, step: u64) -> Answer {
+        let (mut remainders, mut denominators, mut quotients) = ([0u64; ROWS], [0u64; ROWS], [0u64; ROWS]);
+        let refusal = refusal(modulus, step);
+        if refusal != 0 {
+            return Answer { table: Table { remainders, denominators, quotients, last: 0 }, refusal };
+        }
+        let last = fill(modulus, step, &mut remainders, &mut denominators, &mut quotients);
+        Answer { table: Table { remainders, denominators, quotients, last }, refusal }
+    }
+
+    #[inline(never)]
+    pub fn handed_over(modulus: u64, step: u64, to: &mut Memory) -> u32 {
+        let answer = expand(modulus, step);
+        if answer.refusal != 0 {
+            return answer.refusal;
+        }
+        to.remainders = answer.table.remainders;
+        to.denominators = answer.table.denominators;
+        to.quotients = answer.table.quotients;
+        to.last = answer.table.last as u64;
+        0
+    }
+}
+
+/// Straight into the caller's memory: no table by value, nothing copied.
+#[inline(never)]
+fn in_place(modulus: u64, step: u64, to: &mut Memory) -> u32 {
+    let refusal = refusal(modulus, step);
+    if refusal == 0 {
+        *to = ZEROS;
+        to.last = fill(modulus, step, &mut to.remainders, &mut to.denominators, &mut to.quotients) as u64;
+    }
+    refusal
+}
+
+fn nanoseconds(expand: Expand, pairs: &[(u64, u64)], to: &mut Memory) -> f64 {
+    let start = Instant::now();
+    for &(modulus, step) in pairs {
+        black_box(expand(modulus, step, to));
+        black_box(&*to);
+    }
+    start.elapsed().as_secs_f64() * 1e9 / pairs.len() as f64
+}
+
+fn median(mut times: Vec<f64>) -> f64 {
+    times.sort_by(f64::total_cmp);
+    times[times.len() / 2]
+}
+
+fn main() {
+    let mut state = 88_172_645_463_325_252u64;
+    let mut random = || {
+        state ^= state << 13;
+        state ^= state >> 7;
+        state ^= state << 17;
+        state
+    };
+    let pairs: Vec<(u64, u64)> = (0..PAIRS)
+        .map(|_| {
+            let modulus = (1 << 61) + random() % ((1 << 61) + 1);
+            (modulus, random() % modulus)
+        })
+        .collect();
+    let mut to = ZEROS;
+    let contenders: [Expand; 3] = [proved, by_value::handed_over, in_place];
+    let mut times = [const { Vec::new() }; 3];
+    for _ in 0..REPETITIONS {
+        for (expand, times) in contenders.iter().zip(&mut times) {
+            times.push(nanoseconds(*expand, &pairs, &mut to));
+        }
+    }
+    let [proved, by_value, in_place] = times.map(median);
+    println!("expansion, table by value\t{proved:.1}\t{by_value:.1}\t{:.3}", proved / by_value);
+    println!("expansion, filled in place\t{proved:.1}\t{in_place:.1}\t{:.3}", proved / in_place);
+}

@@ -1,0 +1,129 @@
+-- The configurations of every step below a modulus, in closed form: the two records of specs/Promise.antt on them.
+-- Assumes nothing.
+use mathlib.Core.Path.{_≡_, refl, sym, _∙_, ap, subst}
+use mathlib.Core.List.{List, [], _∷_, List·Memᴰ, Memᴰ·cast}
+use Prim.Native.Nat.{ℕ, suc, _+_, _-_, _*_, _<_}
+use native.Mathlib.Decide.{ℕ-discrete}
+use native.Mathlib.Omega.{arith}
+use borrow.Author.Tests.{ne-eqb}
+use lib.ListN.{length, getD}
+use Rattle.numbers.proofs.Remainders.{quotient-positive}
+use Rattle.numbers.proofs.Lists.{Ascending-from, ascending}
+use Rattle.numbers.proofs.Lists.Ascending-from.{ascending-nil, ascending-cons}
+use Rattle.expansion.specs.Rows.{expansion, rows-from, denominators, last, remainder-at, denominator-at, quotient-at, remainder-before, denominator-before, period}
+use Rattle.expansion.specs.Configurations.{Configuration, configuration, none, counts, last-of, regular, regular-from, fine, fine-from}
+use Rattle.expansion.specs.Promise.{Regular-right, Fine-right}
+use Rattle.expansion.proofs.Unrolling.{expansion-unrolled, first-row}
+use Rattle.expansion.proofs.Recurrences.{several-rows}
+use Rattle.expansion.proofs.Regular.{relabelled, regular-many, regular-at, regular-final, regular-ascend}
+use Rattle.expansion.proofs.Fine.{fine-ascend, fine-has, fine-only, fine-first, fine-final}
+use Rattle.expansion.proofs.RowLaws.{last-index, kept, beside, second-row}
+
+module _ (M a : ℕ) (small : a < M) where
+  -- a fact of every step that holds of 0 and of every other one
+  by-cases : (P : Type 0) → (a ≡ 0 → P) → (0 < a → P) → P
+  by-cases P z s = pick (ℕ-discrete a 0)
+    where
+      pick : Dec (a ≡ 0) → P
+      pick (yes e) = z e
+      pick (no e) = s (omega arith)
+
+  regular-of-zero : a ≡ 0 → regular M a ≡ configuration 1 0 0 ∷ []
+  unfolding regular regular-from expansion rows-from
+  regular-of-zero e = rw e
+
+  fine-of-zero : a ≡ 0 → fine M a ≡ configuration 1 0 0 ∷ []
+  unfolding fine
+  fine-of-zero e = rw e
+
+  fine-of-rows : 0 < a → fine M a ≡ fine-from 0 0 (expansion M a)
+  unfolding fine
+  fine-of-rows h = rw (ne-eqb a 0 (λ e. omega (arith, e, h)))
+
+  regular-length : length (regular M a) ≡ suc (last M a)
+  unfolding regular
+  regular-length = regular-many (expansion-unrolled M a) 0 ∙ sym (last-index M a)
+
+  regular-of-row : (i : ℕ) → i < last M a → getD (regular M a) i none ≡ configuration (denominator-at M a i + denominator-before M a i) i 0
+  unfolding regular denominator-at denominator-before
+  regular-of-row i l = regular-at (expansion-unrolled M a) 0 i (omega (arith, last-index M a)) ∙ relabelled refl (omega arith) refl
+
+  regular-last : last-of (regular M a) ≡ configuration (period M a) (last M a) 0
+  regular-last =
+      let e : length (regular M a) - 1 ≡ last M a = omega (arith, regular-length) in
+      rw e (unfold regular period denominator-at in regular-final (expansion-unrolled M a) 0 (last M a) (last-index M a) ∙ relabelled refl (omega arith) refl)
+
+  fine-has-right : (i t : ℕ) → i < last M a → t < quotient-at M a i
+      → List·Memᴰ (configuration (denominator-at M a i + denominator-before M a i + t * denominator-at M a i) i t) (fine M a)
+  unfolding denominator-at denominator-before quotient-at
+  fine-has-right i t l h =
+      rw (fine-of-rows (several-rows (expansion-unrolled M a) (omega (arith, last-index M a))))
+      (Memᴰ·cast (relabelled refl (omega arith) refl) (fine-has (expansion-unrolled M a) 0 i t (omega (arith, last-index M a)) h))
+
+  abbrev Label : Configuration → ℕ → Type 0
+  Label c i =
+      (i < last M a) × (c .part < quotient-at M a i)
+      × (c .count ≡ denominator-at M a i + denominator-before M a i + c .part * denominator-at M a i)
+
+  fine-only-right : 0 < a → (c : Configuration) → List·Memᴰ c (fine M a) → Label c (c .index)
+  unfolding denominator-at denominator-before quotient-at
+  fine-only-right h c d =
+      let b = fine-only (expansion-unrolled M a) 0 c (rw (fine-of-rows h) at d) in
+      let e : c .index ≡ 0 + b .row-of = ap (λ (x : Configuration). x .index) (b .is) in
+      let f : b .row-of ≡ c .index = omega arith in
+      subst (Label c) f (omega (arith, b .within, last-index M a), b .below, ap (λ (x : Configuration). x .count) (b .is))
+
+  fine-last : 0 < a → last-of (fine M a) ≡ configuration (period M a) (last M a - 1) (quotient-at M a (last M a - 1) - 1)
+  unfolding period denominator-at quotient-at
+  fine-last h =
+      let p = second-row M a small h in
+      let e : suc (last M a - 1) ≡ last M a = omega arith in
+      rw (fine-of-rows h) (fine-final (expansion-unrolled M a) small 0 (last M a - 1) (omega (arith, last-index M a))
+      ∙ relabelled (ap (λ (n : ℕ). getD (denominators (expansion M a)) n 0) e) (omega arith) refl)
+
+  regular-first : getD (regular M a) 0 none ≡ configuration 1 0 0
+  unfolding denominator-at denominator-before
+  regular-first =
+      by-cases _ (λ e. ap (λ (cs : List Configuration). getD cs 0 none) (regular-of-zero e))
+      (λ h. regular-of-row 0 (second-row M a small h) ∙ relabelled (omega (arith, first-row (expansion-unrolled M a) .1)) refl refl)
+
+  fine-first-right : getD (fine M a) 0 none ≡ configuration 1 0 0
+  fine-first-right =
+      by-cases _ (λ e. ap (λ (cs : List Configuration). getD cs 0 none) (fine-of-zero e))
+      (λ h. rw (fine-of-rows h) (fine-first (expansion-unrolled M a) small h 0))
+
+  fine-ascends : Ascending-from 0 (counts (fine M a))
+  fine-ascends =
+      by-cases _ (λ e. rw (fine-of-zero e) (ascending-cons {n = 0} {x = 1} (omega arith) ascending-nil))
+      (λ h. rw (fine-of-rows h) (fine-ascend (expansion-unrolled M a) small (omega arith) 0 0 (omega arith)))
+
+  quotient-some : (i : ℕ) → i < last M a → 0 < quotient-at M a i
+  quotient-some i l =
+      let b = beside M a small i l in
+      rw (b .drawn) (quotient-positive (remainder-before M a i) (remainder-at M a i) (b .not-zero) (omega (arith, kept M a small i (omega arith) .falls)))
+
+  pub regular-right : Regular-right M a
+  regular-right =
+      record {
+        many = regular-length;
+        of-row = regular-of-row;
+        last-one = regular-last;
+        first-one = regular-first;
+        ascend = unfold regular in ascending (regular-ascend (expansion-unrolled M a) small (omega arith) 0 0 (omega arith) (λ e. omega arith));
+        among-fine = λ i l. Memᴰ·cast (regular-of-row i l ∙ relabelled (omega arith) refl refl) (fine-has-right i 0 l (quotient-some i l));
+        last-among-fine =
+            by-cases _ (λ e. ap (λ (cs : List Configuration). last-of cs .count) (regular-of-zero e ∙ sym (fine-of-zero e)))
+            (λ h. ap (λ (c : Configuration). c .count) regular-last ∙ sym (ap (λ (c : Configuration). c .count) (fine-last h)));
+        of-zero = regular-of-zero;
+      }
+
+  pub fine-right : Fine-right M a
+  fine-right =
+      record {
+        has = fine-has-right;
+        only = fine-only-right;
+        last-one = fine-last;
+        first-one = fine-first-right;
+        ascend = ascending fine-ascends;
+        of-zero = fine-of-zero;
+      }

@@ -1,0 +1,56 @@
+-- The last denominator is M / gcd(a, M), and two multiples of a agree modulo M exactly if the last denominator divides their distance.
+-- Assumes nothing.
+use mathlib.Core.Path.{_≡_, refl, sym, _∙_, ap, subst}
+use mathlib.Core.Logic.{_↔_}
+use Prim.Native.Nat.{ℕ, _+_, _-_, _*_, _/_, _%_, _<_, _∣_}
+use native.Mathlib.Nat.{div-eq-of-eq-mul-left, dvd-of-mul-dvd-mul-left, pos-of-dvd-of-pos, mul-dvd-mul, mul-add, mul-comm}
+use native.Mathlib.Omega.{arith}
+use lib.ListN.{length}
+use Rattle.numbers.specs.Divisors.{gcd}
+use Rattle.numbers.proofs.Remainders.{divides-if-same, same-if-divides}
+use Rattle.numbers.proofs.Divisors.{gcd-zero, gcd-step, gcd-right, divides-scaled}
+use Rattle.expansion.specs.Rows.{expansion, last, denominator-at, period}
+use Rattle.expansion.proofs.Unrolling.{expansion-unrolled, at-each, some-row}
+use Rattle.expansion.proofs.Recurrences.{Kept, kept-first, kept-next, last-row}
+
+module _ (M a : ℕ) (small : a < M) where
+  pub gcd-positive : 0 < gcd a M
+  gcd-positive = pos-of-dvd-of-pos (gcd-right a M .divides-second) (omega arith)
+
+  -- a row that has the remainder 0 and keeps the divisors of a and M
+  at-zero : {t u p q : ℕ} → Kept M t u p q → gcd u t ≡ gcd a M → u ≡ 0 → q * gcd a M ≡ M
+  at-zero {t} {u} {p} {q} k g z =
+      let b : t ≡ gcd a M = sym (gcd-zero t) ∙ (rw z at g) in
+      omega (arith, k .whole, ap (λ (n : ℕ). q * n) b, ap (λ (n : ℕ). p * n) z)
+
+  pub period-gcd : period M a * gcd a M ≡ M
+  unfolding period denominator-at last
+  period-gcd =
+      let r = expansion-unrolled M a in
+      let n = some-row r in
+      let i : ℕ = length (expansion M a) - 1 in
+      at-zero (at-each (Kept M) (λ t u p q h k. kept-next k h) r (kept-first small) i (omega arith))
+      (at-each (λ t u p q. gcd u t ≡ gcd a M) (λ t u p q h e. sym (gcd-step u t h) ∙ e) r refl i (omega arith))
+      (last-row r i (omega arith) .0)
+
+  pub period-is : period M a ≡ M / gcd a M
+  period-is = sym (div-eq-of-eq-mul-left gcd-positive (sym period-gcd))
+
+  modulus-is : gcd a M * period M a ≡ M
+  modulus-is = mul-comm (gcd a M) (period M a) ∙ period-gcd
+
+  -- multiples of a agree modulo M exactly where the period divides the distance
+  pub agree : (x y : ℕ) → (a * (x + y) % M ≡ a * x % M) ↔ (period M a ∣ y)
+  agree x y = (apart, together)
+    where
+      apart : a * (x + y) % M ≡ a * x % M → period M a ∣ y
+      apart e =
+          let d : M ∣ a * y = divides-if-same M (a * x) (a * y) (rw mul-add at e) in
+          dvd-of-mul-dvd-mul-left (period M a) gcd-positive
+          (subst (λ (n : ℕ). n ∣ gcd a M * y) (sym modulus-is) (divides-scaled M a y d))
+
+      together : period M a ∣ y → a * (x + y) % M ≡ a * x % M
+      together d =
+          rw mul-add
+          (same-if-divides M (a * x) (a * y)
+          (subst (λ (n : ℕ). n ∣ a * y) modulus-is (mul-dvd-mul (gcd a M) (period M a) (gcd-right a M .divides-first) d)))

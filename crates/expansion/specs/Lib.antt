@@ -1,0 +1,4 @@
+pub mod Rows
+pub mod Configurations
+pub mod Answer
+pub mod Promise

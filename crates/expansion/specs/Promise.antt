@@ -1,0 +1,114 @@
+-- What is promised of the expansion, with the letters of document 01: M the modulus, a the step, m the last row's index, P the period.
+-- `Promised`, at the end, says for which numbers each record holds; proofs/Promises.antt proves it. Assumes nothing: these are statements.
+use mathlib.Core.Path.{_≡_}
+use mathlib.Core.List.{List, [], _∷_, List·Memᴰ}
+use mathlib.Core.Logic.{_↔_, _⊎_}
+use Prim.Native.Nat.{ℕ, suc, _+_, _-_, _*_, _/_, _%_, _^_, _≤_, _<_}
+use lib.ListN.{length, getD}
+use Rattle.numbers.specs.Divisors.{gcd, Greatest-common-divisor}
+use Rattle.numbers.specs.Lists.{Ascending}
+use Rattle.expansion.specs.Rows.{expansion, last, remainder-at, denominator-at, quotient-at, remainder-before, denominator-before, period}
+use Rattle.expansion.specs.Configurations.{Configuration, configuration, none, counts, last-of, regular, fine}
+use Rattle.expansion.specs.Answer.{answer, empty-table}
+use Rattle.expansion.specs.declared.Table.{Table}
+use Rattle.expansion.specs.declared.Answer.{Answer}
+
+-- the rows are those of the Euclidean algorithm, from theta(-1) = M, theta(0) = a, q(-1) = 0 and q(0) = 1 to the first remainder 0
+pub record Rows-right (M a : ℕ) : Type 0 where
+  pub first-remainder-before : remainder-before M a 0 ≡ M
+  pub first-denominator-before : denominator-before M a 0 ≡ 0
+  pub next-remainder-before : (i : ℕ) → remainder-before M a (suc i) ≡ remainder-at M a i
+  pub next-denominator-before : (i : ℕ) → denominator-before M a (suc i) ≡ denominator-at M a i
+  pub first-remainder : remainder-at M a 0 ≡ a
+  pub first-denominator : denominator-at M a 0 ≡ 1
+  -- k(i+1) = theta(i-1) / theta(i), rounded down
+  pub quotient : (i : ℕ) → i < last M a → quotient-at M a i ≡ remainder-before M a i / remainder-at M a i
+  -- theta(i+1) = theta(i-1) - k(i+1)·theta(i), without loss in the difference
+  pub remainder : (i : ℕ) → i < last M a → quotient-at M a i * remainder-at M a i + remainder-at M a (suc i) ≡ remainder-before M a i
+  -- q(i+1) = q(i-1) + k(i+1)·q(i)
+  pub denominator : (i : ℕ) → i < last M a → denominator-at M a (suc i) ≡ denominator-before M a i + quotient-at M a i * denominator-at M a i
+  -- remainders fall strictly, from theta(-1) = M on
+  pub falls : (i : ℕ) → i ≤ last M a → remainder-at M a i < remainder-before M a i
+  pub not-zero : (i : ℕ) → i < last M a → 0 < remainder-at M a i
+  pub last-remainder : remainder-at M a (last M a) ≡ 0
+  -- the last k is written 0
+  pub last-quotient : quotient-at M a (last M a) ≡ 0
+  -- q(i)·theta(i-1) + q(i-1)·theta(i) = M
+  pub modulus-of-row : (i : ℕ) → i ≤ last M a
+      → denominator-at M a i * remainder-before M a i + denominator-before M a i * remainder-at M a i ≡ M
+  -- where there is a quotient, the last one drawn, k(m), is at least 2
+  pub last-drawn : 0 < a → (0 < last M a) × (2 ≤ quotient-at M a (last M a - 1))
+
+-- there are rows 0 to m: at least 1, and up to 2^62 at most 89
+pub record Rows-few (M a : ℕ) : Type 0 where
+  pub rows-to-last : length (expansion M a) ≡ suc (last M a)
+  pub at-most-89 : M ≤ 2 ^ 62 → length (expansion M a) ≤ 89
+  pub last-at-most-88 : M ≤ 2 ^ 62 → last M a ≤ 88
+
+-- the period P = q(m) is M / gcd(a, M); after it the multiples of a modulo M repeat, and after no smaller number
+pub record Period-right (M a : ℕ) : Type 0 where
+  pub last-denominator : period M a ≡ denominator-at M a (last M a)
+  pub divisor : Greatest-common-divisor a M (gcd a M)
+  pub divisor-of-zero : gcd 0 M ≡ M
+  pub by-divisor : period M a ≡ M / gcd a M
+  -- the division leaves nothing
+  pub exact : period M a * gcd a M ≡ M
+  pub repeats : (x : ℕ) → a * (x + period M a) % M ≡ a * x % M
+  pub not-before : (x y : ℕ) → 0 < y → y < period M a → a * (x + y) % M ≡ a * x % M → ⊥
+
+-- the regular configurations: q(i) + q(i-1) for each i with theta(i) not 0, then P with the index m
+pub record Regular-right (M a : ℕ) : Type 0 where
+  pub many : length (regular M a) ≡ suc (last M a)
+  pub of-row : (i : ℕ) → i < last M a → getD (regular M a) i none ≡ configuration (denominator-at M a i + denominator-before M a i) i 0
+  pub last-one : last-of (regular M a) ≡ configuration (period M a) (last M a) 0
+  pub first-one : getD (regular M a) 0 none ≡ configuration 1 0 0
+  pub ascend : Ascending (counts (regular M a))
+  -- each before the last is a fine one, of the label (i, 0); the last has the count of the last fine one
+  pub among-fine : (i : ℕ) → i < last M a → List·Memᴰ (getD (regular M a) i none) (fine M a)
+  pub last-among-fine : last-of (regular M a) .count ≡ last-of (fine M a) .count
+  -- where the step is 0, the one of a single point
+  pub of-zero : a ≡ 0 → regular M a ≡ configuration 1 0 0 ∷ []
+
+-- the fine configurations: q(i) + q(i-1) + t·q(i) for each i with theta(i) not 0 and each t below k(i+1)
+pub record Fine-right (M a : ℕ) : Type 0 where
+  pub has : (i t : ℕ) → i < last M a → t < quotient-at M a i
+      → List·Memᴰ (configuration (denominator-at M a i + denominator-before M a i + t * denominator-at M a i) i t) (fine M a)
+  pub only : 0 < a → (c : Configuration) → List·Memᴰ c (fine M a)
+      → (c .index < last M a) × (c .part < quotient-at M a (c .index))
+      × (c .count ≡ denominator-at M a (c .index) + denominator-before M a (c .index) + c .part * denominator-at M a (c .index))
+  -- the last one has P points and the label (m-1, k(m)-1)
+  pub last-one : 0 < a → last-of (fine M a) ≡ configuration (period M a) (last M a - 1) (quotient-at M a (last M a - 1) - 1)
+  pub first-one : getD (fine M a) 0 none ≡ configuration 1 0 0
+  pub ascend : Ascending (counts (fine M a))
+  -- where the step is 0, the one of a single point
+  pub of-zero : a ≡ 0 → fine M a ≡ configuration 1 0 0 ∷ []
+
+-- a column of the table: 89 places, the rows from 0 to m, and zeros after them
+pub record Column-right (M a : ℕ) (column : List ℕ) (entry : ℕ → ℕ) : Type 0 where
+  pub places : length column ≡ 89
+  pub of-row : (i : ℕ) → i ≤ last M a → getD column i 0 ≡ entry i
+  pub after : (i : ℕ) → last M a < i → getD column i 0 ≡ 0
+
+-- the table of an accepted modulus and step
+pub record Table-right (M a : ℕ) (table : Table) : Type 0 where
+  pub remainders : Column-right M a (table .remainders) (remainder-at M a)
+  pub denominators : Column-right M a (table .denominators) (denominator-at M a)
+  pub quotients : Column-right M a (table .quotients) (quotient-at M a)
+  pub last-index : table .last ≡ last M a
+
+-- an answer of the call: 1 or else 2 exactly if its condition holds, with everything else 0, and the table exactly where neither does
+pub record Answer-right (M a : ℕ) (answered : Answer) : Type 0 where
+  pub modulus-refused : (answered .refusal ≡ 1) ↔ ((M < 2) ⊎ (2 ^ 62 < M))
+  pub step-refused : (answered .refusal ≡ 2) ↔ ((2 ≤ M) × (M ≤ 2 ^ 62) × (M ≤ a))
+  pub accepted : (answered .refusal ≡ 0) ↔ ((2 ≤ M) × (M ≤ 2 ^ 62) × (a < M))
+  pub refused-empty : 0 < answered .refusal → answered .table ≡ empty-table
+  pub accepted-table : answered .refusal ≡ 0 → Table-right M a (answered .table)
+
+-- all of it: of every step below a modulus, and the answer of every two numbers
+pub record Promised : Type 0 where
+  pub rows : (M a : ℕ) → a < M → Rows-right M a
+  pub few : (M a : ℕ) → a < M → Rows-few M a
+  pub period : (M a : ℕ) → a < M → Period-right M a
+  pub regular : (M a : ℕ) → a < M → Regular-right M a
+  pub fine : (M a : ℕ) → a < M → Fine-right M a
+  pub answers : (M a : ℕ) → Answer-right M a (answer M a)

@@ -1,0 +1,4 @@
+pub mod Remainders
+pub mod Divisors
+pub mod Fibonacci
+pub mod Lists

@@ -1,0 +1,59 @@
+-- Lists that ascend strictly, number by number from a bound on; a list written from the first place on into zeros.
+-- Assumes nothing.
+use mathlib.Core.Path.{_≡_, refl, _∙_, ap}
+use mathlib.Core.List.{List, [], _∷_, _++_}
+use Prim.Native.Nat.{ℕ, zero, suc, _+_, _-_, _≤_, _<_}
+use native.Mathlib.Nat.{suc-sub-suc, sub-zero, zero-sub, zero-add, not-suc-le-zero}
+use native.Mathlib.Omega.{arith}
+use lib.ListN.{length, getD, drop, replicate, length-append, length-replicate, List·getD-append}
+use lib.Seq.{sets, sets-eq, getD-append-add}
+use Rattle.numbers.specs.Lists.{Ascending, zero-padded}
+
+-- each number is at least the bound, and larger than the number before it
+pub data Ascending-from : ℕ → List ℕ → Type 0 where
+  ascending-nil : {n : ℕ} → Ascending-from n []
+  ascending-cons : {n x : ℕ} {xs : List ℕ} → n ≤ x → Ascending-from (suc x) xs → Ascending-from n (x ∷ xs)
+
+at-least : {n : ℕ} {xs : List ℕ} → Ascending-from n xs → (i : ℕ) → i < length xs → n ≤ getD xs i 0
+at-least ascending-nil i h = absurd (not-suc-le-zero h)
+at-least (ascending-cons l c) zero h = l
+at-least (ascending-cons l c) (suc i) h = omega (arith, at-least c i (omega arith))
+
+pub ascending : {n : ℕ} {xs : List ℕ} → Ascending-from n xs → Ascending xs
+ascending ascending-nil i j h l = absurd (not-suc-le-zero l)
+ascending (ascending-cons b c) i zero h l = absurd (not-suc-le-zero h)
+ascending (ascending-cons b c) zero (suc j) h l = at-least c j (omega arith)
+ascending (ascending-cons b c) (suc i) (suc j) h l = ascending c i j (omega arith) (omega arith)
+
+drop-replicate : (n k : ℕ) → drop {A = ℕ} k (replicate n 0) ≡ replicate {A = ℕ} (n - k) 0
+drop-replicate n zero = rw sub-zero
+drop-replicate zero (suc k) = rw zero-sub
+drop-replicate (suc n) (suc k) = rw suc-sub-suc (drop-replicate n k)
+
+-- a list written from the first place on into an array of zeros
+pub written-into-zeros : (n : ℕ) (xs : List ℕ) → length xs ≤ n → sets (replicate n 0) 0 xs ≡ zero-padded n xs
+unfolding zero-padded
+written-into-zeros n xs h =
+    sets-eq xs (replicate n 0) 0 (omega (arith, length-replicate {A = ℕ} n 0))
+    ∙ ap (λ (l : List ℕ). xs ++ l) (rw zero-add (drop-replicate n (length xs)))
+
+-- what such an array holds, place by place
+pub padded-places : (n : ℕ) (xs : List ℕ) → length xs ≤ n → length (zero-padded n xs) ≡ n
+unfolding zero-padded
+padded-places n xs h =
+    omega (arith, length-append xs (replicate (n - length xs) 0), length-replicate {A = ℕ} (n - length xs) 0)
+
+zeros-at : (n i : ℕ) → getD {A = ℕ} (replicate n 0) i 0 ≡ 0
+zeros-at zero i = refl
+zeros-at (suc n) zero = refl
+zeros-at (suc n) (suc i) = zeros-at n i
+
+pub padded-front : (n : ℕ) (xs : List ℕ) (i : ℕ) → i < length xs → getD (zero-padded n xs) i 0 ≡ getD xs i 0
+unfolding zero-padded
+padded-front n xs i h = List·getD-append xs (replicate (n - length xs) 0) 0 i h
+
+pub padded-after : (n : ℕ) (xs : List ℕ) (i : ℕ) → length xs ≤ i → getD (zero-padded n xs) i 0 ≡ 0
+unfolding zero-padded
+padded-after n xs i h =
+    let e : i ≡ length xs + (i - length xs) = omega arith in
+    rw e (getD-append-add xs (replicate (n - length xs) 0) (i - length xs) 0 ∙ zeros-at (n - length xs) (i - length xs))

@@ -1,0 +1,32 @@
+-- Quotients and remainders: how large a quotient is, and when two numbers leave the same remainder. Assumes nothing.
+use mathlib.Core.Path.{_≡_, _∙_, ap, subst}
+use Prim.Native.Nat.{ℕ, _+_, _*_, _-_, _/_, _%_, _≤_, _<_, _∣_}
+use native.Mathlib.Nat.{le-div-iff-mul-le, div-add-mod', mod-lt, mod-eq-of-lt, add-mul-mod-self-right, mul-lt-mul-of-pos-right, mul-le-mul-right, dvd-mul-left, dvd-sub, dvd-iff-mod-eq-zero, add-mod, mod-mod, add-zero, lt-of-not-le}
+use native.Mathlib.Omega.{arith}
+
+-- a number is at least once in a number that is not smaller
+pub quotient-positive : (t u : ℕ) → 0 < u → u ≤ t → 1 ≤ t / u
+quotient-positive t u h l = le-div-iff-mul-le h .1 (omega arith)
+
+-- a proper divisor is at least twice in its multiple
+pub quotient-two : (t u : ℕ) → 0 < u → u < t → t % u ≡ 0 → 2 ≤ t / u
+quotient-two t u h l e =
+    lt-of-not-le (λ k. omega (arith, div-add-mod' t u, mul-le-mul-right u k))
+
+-- a common factor comes out of a remainder
+pub scaled-remainder : (a b k : ℕ) → 0 < a → 0 < k → b * k % (a * k) ≡ b % a * k
+scaled-remainder a b k h l =
+    let e : b * k ≡ b % a * k + b / a * (a * k) = omega (arith, ap (λ (n : ℕ). n * k) (div-add-mod' b a)) in
+    rw (e, add-mul-mod-self-right) (mod-eq-of-lt (mul-lt-mul-of-pos-right (mod-lt b h) l))
+
+-- a sum leaves the remainder of its first term exactly if the modulus divides the second
+module _ (m n k : ℕ) where
+  pub divides-if-same : (n + k) % m ≡ n % m → m ∣ k
+  divides-if-same e =
+      let d : (n + k) / m * m - n / m * m ≡ k = omega (arith, div-add-mod' (n + k) m, div-add-mod' n m) in
+      subst (λ (x : ℕ). m ∣ x) d (dvd-sub m (dvd-mul-left m ((n + k) / m)) (dvd-mul-left m (n / m)))
+
+  pub same-if-divides : m ∣ k → (n + k) % m ≡ n % m
+  same-if-divides d =
+      let z : k % m ≡ 0 = dvd-iff-mod-eq-zero m .0 d in
+      add-mod n k m ∙ rw (z, add-zero) (mod-mod n m)

@@ -1,0 +1,2 @@
+pub mod Divisors
+pub mod Lists
