@@ -1,47 +1,29 @@
 //! The expansion of random pairs with a modulus from 2^61 to 2^62: the proved call, and the same work in unverified Rust.
 
+#[path = "../tests/c_api.rs"]
+mod c_api;
+
+use c_api::{Column, ROWS};
 use std::hint::black_box;
 use std::time::Instant;
 
-const ROWS: usize = 89;
 const PAIRS: usize = 4096;
 const REPETITIONS: usize = 101;
 
 /// The caller's memory: three columns and the last row's index.
 struct Memory {
-    remainders: [u64; ROWS],
-    denominators: [u64; ROWS],
-    quotients: [u64; ROWS],
+    remainders: Column,
+    denominators: Column,
+    quotients: Column,
     last: u64,
 }
 
-const ZEROS: Memory =
-    Memory { remainders: [0; ROWS], denominators: [0; ROWS], quotients: [0; ROWS], last: 0 };
+const ZEROS: Memory = Memory { remainders: [0; ROWS], denominators: [0; ROWS], quotients: [0; ROWS], last: 0 };
 
 type Expand = fn(u64, u64, &mut Memory) -> u32;
 
-extern "C" {
-    fn geyserdish_expand(
-        modulus: u64,
-        step: u64,
-        remainders: *mut u64,
-        denominators: *mut u64,
-        quotients: *mut u64,
-        last: *mut u64,
-    ) -> u32;
-}
-
 fn proved(modulus: u64, step: u64, to: &mut Memory) -> u32 {
-    unsafe {
-        geyserdish_expand(
-            modulus,
-            step,
-            to.remainders.as_mut_ptr(),
-            to.denominators.as_mut_ptr(),
-            to.quotients.as_mut_ptr(),
-            &mut to.last,
-        )
-    }
+    c_api::expand(modulus, step, &mut to.remainders, &mut to.denominators, &mut to.quotients, &mut to.last)
 }
 
 /// The refusals of the call, unverified.
@@ -58,13 +40,7 @@ fn refusal(modulus: u64, step: u64) -> u32 {
 
 /// The loop of the call, unverified: fills columns of zeros, answers the last row's index.
 #[inline(always)]
-fn fill(
-    modulus: u64,
-    step: u64,
-    remainders: &mut [u64; ROWS],
-    denominators: &mut [u64; ROWS],
-    quotients: &mut [u64; ROWS],
-) -> usize {
+fn fill(modulus: u64, step: u64, remainders: &mut Column, denominators: &mut Column, quotients: &mut Column) -> usize {
     let (mut before, mut remainder, mut denominator_before, mut denominator) = (modulus, step, 0u64, 1u64);
     let mut row = 0;
     while remainder != 0 {
@@ -83,12 +59,12 @@ fn fill(
 
 /// Local arrays, a struct made of them at the end and answered by value, then handed over.
 mod by_value {
-    use super::{fill, refusal, Memory, ROWS};
+    use super::{fill, refusal, Column, Memory, ROWS};
 
     struct Table {
-        remainders: [u64; ROWS],
-        denominators: [u64; ROWS],
-        quotients: [u64; ROWS],
+        remainders: Column,
+        denominators: Column,
+        quotients: Column,
         last: usize,
     }
 

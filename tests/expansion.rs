@@ -1,20 +1,11 @@
 //! The expansion call against a reference written from document 01's section "The ladder" alone: every small modulus and step,
 //! random and extreme ones, with canaries around the caller's memory.
 
+mod c_api;
+
+use c_api::ROWS;
 use std::process::exit;
 
-extern "C" {
-    fn geyserdish_expand(
-        modulus: u64,
-        step: u64,
-        remainders: *mut u64,
-        denominators: *mut u64,
-        quotients: *mut u64,
-        last: *mut u64,
-    ) -> u32;
-}
-
-const ROWS: usize = 89;
 const LARGEST: u64 = 1 << 62;
 const SEED: u64 = 0x9E37_79B9_7F4A_7C15;
 
@@ -71,12 +62,14 @@ impl Lent {
         Lent { words, len }
     }
 
-    fn pointer(&mut self) -> *mut u64 {
-        self.words[Self::CANARIES..].as_mut_ptr()
-    }
-
     fn part(&self) -> &[u64] {
         &self.words[Self::CANARIES..Self::CANARIES + self.len]
+    }
+
+    /// The part, lent as an array of its length.
+    fn lend<const N: usize>(&mut self) -> &mut [u64; N] {
+        let part = &mut self.words[Self::CANARIES..Self::CANARIES + self.len];
+        part.try_into().unwrap()
     }
 
     /// Whether nothing outside the part differs from what it was made with.
@@ -92,16 +85,14 @@ fn compare(modulus: u64, step: u64) -> Result<(), String> {
     let made = fresh();
     let mut lent = fresh();
     let [remainders, denominators, quotients, last] = &mut lent;
-    let number = unsafe {
-        geyserdish_expand(
-            modulus,
-            step,
-            remainders.pointer(),
-            denominators.pointer(),
-            quotients.pointer(),
-            last.pointer(),
-        )
-    };
+    let number = c_api::expand(
+        modulus,
+        step,
+        remainders.lend(),
+        denominators.lend(),
+        quotients.lend(),
+        &mut last.lend::<1>()[0],
+    );
     let wrong = |what: &str| Err(format!("modulus {modulus}, step {step}: {what}"));
     if number != reference::refusal(modulus, step) {
         return wrong(&format!("refusal {number}"));

@@ -14,7 +14,7 @@ use Rattle.expansion.specs.Rows.{expansion, rows-from, denominators, las
 use Rattle.expansion.specs.Configurations.{Configuration, configuration, none, counts, last-of, regular, regular-from, fine, fine-from}
 use Rattle.expansion.specs.Promise.{Regular-right, Fine-right}
 use Rattle.expansion.proofs.Unrolling.{expansion-unrolled, first-row}
-use Rattle.expansion.proofs.Recurrences.{several-rows}
+use Rattle.expansion.proofs.Recurrences.{kept-first, several-rows}
 use Rattle.expansion.proofs.Regular.{relabelled, regular-many, regular-at, regular-final, regular-ascend}
 use Rattle.expansion.proofs.Fine.{fine-ascend, fine-has, fine-only, fine-first, fine-final}
 use Rattle.expansion.proofs.RowLaws.{last-index, kept, beside, second-row}
@@ -95,7 +95,7 @@ module _ (M a : ℕ) (small : a < M) where
   fine-ascends : Ascending-from 0 (counts (fine M a))
   fine-ascends =
       by-cases _ (λ e. rw (fine-of-zero e) (ascending-cons {n = 0} {x = 1} (omega arith) ascending-nil))
-      (λ h. rw (fine-of-rows h) (fine-ascend (expansion-unrolled M a) small (omega arith) 0 0 (omega arith)))
+      (λ h. rw (fine-of-rows h) (fine-ascend (expansion-unrolled M a) (kept-first small) 0 0 (omega arith)))
 
   quotient-some : (i : ℕ) → i < last M a → 0 < quotient-at M a i
   quotient-some i l =
@@ -109,7 +109,7 @@ module _ (M a : ℕ) (small : a < M) where
         of-row = regular-of-row;
         last-one = regular-last;
         first-one = regular-first;
-        ascend = unfold regular in ascending (regular-ascend (expansion-unrolled M a) small (omega arith) 0 0 (omega arith) (λ e. omega arith));
+        ascend = unfold regular in ascending (regular-ascend (expansion-unrolled M a) (kept-first small) 0 0 (omega arith) (λ e. omega arith));
         among-fine = λ i l. Memᴰ·cast (regular-of-row i l ∙ relabelled (omega arith) refl refl) (fine-has-right i 0 l (quotient-some i l));
         last-among-fine =
             by-cases _ (λ e. ap (λ (cs : List Configuration). last-of cs .count) (regular-of-zero e ∙ sym (fine-of-zero e)))

@@ -5,7 +5,7 @@ use mathlib.Core.List.List·Memᴰ.{List·Memᴰ·head, List·Memᴰ·tail}
 use mathlib.Core.Logic.{⊎-elim}
 use Prim.Native.Nat.{ℕ, zero, suc, _+_, _-_, _*_, _/_, _≤_, _<_}
 use native.Mathlib.Decide.{ℕ-discrete}
-use native.Mathlib.Nat.{mod-lt, mul-le-mul-right}
+use native.Mathlib.Nat.{mod-lt}
 use native.Mathlib.Omega.{arith}
 use borrow.Author.Tests.{ne-eqb}
 use lib.ListN.{length, getD, length-append}
@@ -17,7 +17,7 @@ use Rattle.expansion.specs.Rows.{Row, row, denominators, quotients}
 use Rattle.expansion.specs.Configurations.{Configuration, configuration, none, counts, last-of, parts-from, fine-from}
 use Rattle.expansion.proofs.Unrolling.{Rows, some-row, first-row}
 use Rattle.expansion.proofs.Unrolling.Rows.{end, next}
-use Rattle.expansion.proofs.Recurrences.{single-row, several-rows}
+use Rattle.expansion.proofs.Recurrences.{Kept, kept-next, single-row, several-rows}
 use Rattle.expansion.proofs.Regular.{relabelled}
 
 pub fine-next : (i p u q k : ℕ) (rs : List Row) → 0 < u → fine-from i p (row u q k ∷ rs) ≡ parts-from k 0 i p q ++ fine-from (suc i) q rs
@@ -71,13 +71,13 @@ module _ (i p q : ℕ) where
 -- ---- row by row
 
 -- counts ascend from q + p on
-pub fine-ascend : {t u p q : ℕ} {rs : List Row} → Rows t u p q rs → u < t → 1 ≤ q → (i n : ℕ) → n ≤ q + p → Ascending-from n (counts (fine-from i p rs))
-fine-ascend end l o i n b = rw fine-end ascending-nil
-fine-ascend (next {t} {u} {p} {q} {rs} h r) l o i n b =
-    let k : 1 ≤ t / u = quotient-positive t u h (omega (arith, l)) in
+pub fine-ascend : {M t u p q : ℕ} {rs : List Row} → Rows t u p q rs → Kept M t u p q → (i n : ℕ) → n ≤ q + p
+    → Ascending-from n (counts (fine-from i p rs))
+fine-ascend end k i n b = rw fine-end ascending-nil
+fine-ascend (next {t} {u} {p} {q} {rs} h r) k i n b =
     rw fine-next
-    (parts-ascend i p q (t / u) 0 n (fine-from (suc i) q rs) (omega arith) o
-    (λ d e. fine-ascend r (mod-lt t h) (omega (arith, mul-le-mul-right q k)) (suc i) d (omega arith)))
+    (parts-ascend i p q (t / u) 0 n (fine-from (suc i) q rs) (omega arith) (k .some)
+    (λ d e. fine-ascend r (kept-next k h) (suc i) d (omega arith)))
 
 -- the configuration of label (j, s), where the rows begin with row i
 abbrev labelled : (i p : ℕ) → List Row → (j s : ℕ) → Configuration

@@ -1,8 +1,8 @@
 -- The regular configurations: one for each row, with counts that ascend from 1 to the last denominator. Assumes nothing.
 use mathlib.Core.Path.{_≡_, refl, _∙_, ap}
 use mathlib.Core.List.{List, [], _∷_}
-use Prim.Native.Nat.{ℕ, zero, suc, _+_, _/_, _≤_, _<_}
-use native.Mathlib.Nat.{mod-lt, mul-le-mul-right}
+use Prim.Native.Nat.{ℕ, zero, suc, _+_, _≤_, _<_}
+use native.Mathlib.Nat.{mul-le-mul-right}
 use native.Mathlib.Omega.{arith}
 use borrow.Author.Tests.{ne-eqb}
 use lib.ListN.{length, getD}
@@ -13,6 +13,7 @@ use Rattle.expansion.specs.Rows.{Row, row, denominators}
 use Rattle.expansion.specs.Configurations.{configuration, none, counts, regular-from}
 use Rattle.expansion.proofs.Unrolling.{Rows, some-row}
 use Rattle.expansion.proofs.Unrolling.Rows.{end, next}
+use Rattle.expansion.proofs.Recurrences.{Kept, kept-next}
 
 pub relabelled : {n n′ i i′ t t′ : ℕ} → n ≡ n′ → i ≡ i′ → t ≡ t′ → configuration n i t ≡ configuration n′ i′ t′
 relabelled e f g = λ j. record { count = e j; index = f j; part = g j }
@@ -50,12 +51,12 @@ regular-final (next h r) i (suc j) e =
     (regular-final r (suc i) j (omega (arith, e)) ∙ relabelled refl (omega arith) refl)
 
 -- counts ascend from q + p on, or from q in the last row
-pub regular-ascend : {t u p q : ℕ} {rs : List Row} → Rows t u p q rs → u < t → 1 ≤ q → (i n : ℕ) → n ≤ q + p → (u ≡ 0 → n ≤ q)
+pub regular-ascend : {M t u p q : ℕ} {rs : List Row} → Rows t u p q rs → Kept M t u p q → (i n : ℕ) → n ≤ q + p → (u ≡ 0 → n ≤ q)
     → Ascending-from n (counts (regular-from i p rs))
-regular-ascend (end {t} {p} {q}) l o i n b z = rw regular-end (ascending-cons (z refl) ascending-nil)
-regular-ascend (next {t} {u} {p} {q} h r) l o i n b z =
-    let k : 1 ≤ t / u = quotient-positive t u h (omega (arith, l)) in
+regular-ascend end k i n b z = rw regular-end (ascending-cons (z refl) ascending-nil)
+regular-ascend (next {t} {u} {p} {q} h r) k i n b z =
     rw regular-next
     (ascending-cons b
-    (regular-ascend r (mod-lt t h) (omega (arith, mul-le-mul-right q k)) (suc i) (suc (q + p)) (omega (arith, mul-le-mul-right q k))
-    (λ e. omega (arith, mul-le-mul-right q (quotient-two t u h l e)))))
+    (regular-ascend r (kept-next k h) (suc i) (suc (q + p))
+    (omega (arith, k .some, mul-le-mul-right q (quotient-positive t u h (omega (arith, k .falls)))))
+    (λ e. omega (arith, k .some, mul-le-mul-right q (quotient-two t u h (k .falls) e)))))

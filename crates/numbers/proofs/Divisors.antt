@@ -33,7 +33,7 @@ gcd-step (suc a) b h =
     enough a (b % suc a) (b % suc a) (suc a) (omega arith) (omega arith)
 
 -- what holds of 0 and every number, and at (a, b) if at (b mod a, a), holds of every two numbers
-pub euclid : (P : ℕ → ℕ → Type 0) → ((b : ℕ) → P 0 b) → ((a b : ℕ) → 0 < a → P (b % a) a → P a b) → (a b : ℕ) → P a b
+euclid : (P : ℕ → ℕ → Type 0) → ((b : ℕ) → P 0 b) → ((a b : ℕ) → 0 < a → P (b % a) a → P a b) → (a b : ℕ) → P a b
 euclid P base step a b = go a a b (omega arith)
   where
     go : (n a b : ℕ) → a ≤ n → P a b

@@ -10,15 +10,15 @@ use Rattle.expansion.proofs.fill.Statement.{statement}
 use Rattle.expansion.proofs.fill.Tie as tie
 
 abbrev Inv-loop : tie.InvT-loop
-Inv-loop modulus step remainders₀ denominators₀ quotients₀ before₀ remainder₀ denominator-before₀ denominator₀ row₀ remainders denominators quotients before remainder denominator-before denominator row =
+Inv-loop modulus step _ _ _ _ _ _ _ _ remainders denominators quotients before remainder denominator-before denominator row =
     Filled modulus step (columns remainders denominators quotients) before remainder denominator-before denominator row
 
 abbrev μ-loop : tie.MeasureT-loop
-μ-loop modulus step remainders₀ denominators₀ quotients₀ before₀ remainder₀ denominator-before₀ denominator₀ row₀ remainders denominators quotients before remainder denominator-before denominator row = remainder
+μ-loop _ _ _ _ _ _ _ _ _ _ _ _ _ _ remainder _ _ _ = remainder
 
 -- in a turn the next denominator, and the product in it, are at most the modulus
 next-fits : (c : tie.In-loop Inv-loop μ-loop)
-    → c .before .loop .denominator-before + c .before .loop .before / c .before .loop .remainder * c .before .loop .denominator ≤ c .before .before .args .modulus
+    → let l = c .before .loop in l .denominator-before + l .before / l .remainder * l .denominator ≤ c .before .before .args .modulus
 next-fits c = denominator-fits (c .before .loop .inv .kept) (pos-of-ne-zero (c .loop-test .taken))
 
 loop-holds : tie.Need-loop-holds Inv-loop μ-loop
