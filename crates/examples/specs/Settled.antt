@@ -1,4 +1,4 @@
--- Document 01's settled examples that are marked P, as one statement with a field for each. Assumes nothing: these are statements.
+-- Document 01's settled examples marked P, as one statement with a field for each that is proved so far. Assumes nothing: these are statements.
 use mathlib.Core.Path.{_≡_}
 use mathlib.Core.List.{[], _∷_}
 use lib.ListN.{replicate}

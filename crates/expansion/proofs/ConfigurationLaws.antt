@@ -2,8 +2,9 @@
 -- Assumes nothing.
 use mathlib.Core.Path.{_≡_, refl, sym, _∙_, ap, subst}
 use mathlib.Core.List.{List, [], _∷_, List·Memᴰ, Memᴰ·cast}
+use mathlib.Core.Logic.{⊎-elim}
 use Prim.Native.Nat.{ℕ, suc, _+_, _-_, _*_, _<_}
-use native.Mathlib.Decide.{ℕ-discrete}
+use native.Mathlib.Nat.{eq-zero-or-pos}
 use native.Mathlib.Omega.{arith}
 use borrow.Author.Tests.{ne-eqb}
 use lib.ListN.{length, getD}
@@ -20,14 +21,6 @@ use Rattle.expansion.proofs.Fine.{fine-ascend, fine-has, fine-only, fin
 use Rattle.expansion.proofs.RowLaws.{last-index, kept, beside, second-row}
 
 module _ (M a : ℕ) (small : a < M) where
-  -- a fact of every step that holds of 0 and of every other one
-  by-cases : (P : Type 0) → (a ≡ 0 → P) → (0 < a → P) → P
-  by-cases P z s = pick (ℕ-discrete a 0)
-    where
-      pick : Dec (a ≡ 0) → P
-      pick (yes e) = z e
-      pick (no e) = s (omega arith)
-
   regular-of-zero : a ≡ 0 → regular M a ≡ configuration 1 0 0 ∷ []
   unfolding regular regular-from expansion rows-from
   regular-of-zero e = rw e
@@ -84,18 +77,21 @@ module _ (M a : ℕ) (small : a < M) where
   regular-first : getD (regular M a) 0 none ≡ configuration 1 0 0
   unfolding denominator-at denominator-before
   regular-first =
-      by-cases _ (λ e. ap (λ (cs : List Configuration). getD cs 0 none) (regular-of-zero e))
+      ⊎-elim (λ e. ap (λ (cs : List Configuration). getD cs 0 none) (regular-of-zero e))
       (λ h. regular-of-row 0 (second-row M a small h) ∙ relabelled (omega (arith, first-row (expansion-unrolled M a) .1)) refl refl)
+      (eq-zero-or-pos a)
 
   fine-first-right : getD (fine M a) 0 none ≡ configuration 1 0 0
   fine-first-right =
-      by-cases _ (λ e. ap (λ (cs : List Configuration). getD cs 0 none) (fine-of-zero e))
+      ⊎-elim (λ e. ap (λ (cs : List Configuration). getD cs 0 none) (fine-of-zero e))
       (λ h. rw (fine-of-rows h) (fine-first (expansion-unrolled M a) small h 0))
+      (eq-zero-or-pos a)
 
   fine-ascends : Ascending-from 0 (counts (fine M a))
   fine-ascends =
-      by-cases _ (λ e. rw (fine-of-zero e) (ascending-cons {n = 0} {x = 1} (omega arith) ascending-nil))
+      ⊎-elim (λ e. rw (fine-of-zero e) (ascending-cons {n = 0} {x = 1} (omega arith) ascending-nil))
       (λ h. rw (fine-of-rows h) (fine-ascend (expansion-unrolled M a) (kept-first small) 0 0 (omega arith)))
+      (eq-zero-or-pos a)
 
   quotient-some : (i : ℕ) → i < last M a → 0 < quotient-at M a i
   quotient-some i l =
@@ -112,8 +108,9 @@ module _ (M a : ℕ) (small : a < M) where
         ascend = unfold regular in ascending (regular-ascend (expansion-unrolled M a) (kept-first small) 0 0 (omega arith) (λ e. omega arith));
         among-fine = λ i l. Memᴰ·cast (regular-of-row i l ∙ relabelled (omega arith) refl refl) (fine-has-right i 0 l (quotient-some i l));
         last-among-fine =
-            by-cases _ (λ e. ap (λ (cs : List Configuration). last-of cs .count) (regular-of-zero e ∙ sym (fine-of-zero e)))
-            (λ h. ap (λ (c : Configuration). c .count) regular-last ∙ sym (ap (λ (c : Configuration). c .count) (fine-last h)));
+            ⊎-elim (λ e. ap (λ (cs : List Configuration). last-of cs .count) (regular-of-zero e ∙ sym (fine-of-zero e)))
+            (λ h. ap (λ (c : Configuration). c .count) regular-last ∙ sym (ap (λ (c : Configuration). c .count) (fine-last h)))
+            (eq-zero-or-pos a);
         of-zero = regular-of-zero;
       }
 

@@ -4,8 +4,7 @@ use mathlib.Core.List.{List, [], _∷_, _++_, append-nil, List·Memᴰ, List·Me
 use mathlib.Core.List.List·Memᴰ.{List·Memᴰ·head, List·Memᴰ·tail}
 use mathlib.Core.Logic.{⊎-elim}
 use Prim.Native.Nat.{ℕ, zero, suc, _+_, _-_, _*_, _/_, _≤_, _<_}
-use native.Mathlib.Decide.{ℕ-discrete}
-use native.Mathlib.Nat.{mod-lt}
+use native.Mathlib.Nat.{mod-lt, eq-or-lt-of-le}
 use native.Mathlib.Omega.{arith}
 use borrow.Author.Tests.{ne-eqb}
 use lib.ListN.{length, getD, length-append}
@@ -47,12 +46,8 @@ module _ (i p q : ℕ) where
   parts-have : (n t s : ℕ) → t ≤ s → s < t + n → List·Memᴰ (part-of s) (parts-from n t i p q)
   unfolding parts-from
   parts-have zero t s l h = absurd (omega (arith, l, h))
-  parts-have (suc n) t s l h = pick (ℕ-discrete s t) (parts-have n (suc t) s)
-    where
-      pick : Dec (s ≡ t) → (suc t ≤ s → s < suc t + n → List·Memᴰ (part-of s) (parts-from n (suc t) i p q))
-          → List·Memᴰ (part-of s) (part-of t ∷ parts-from n (suc t) i p q)
-      pick (yes e) later = List·Memᴰ·head (ap part-of e)
-      pick (no e) later = List·Memᴰ·tail (later (omega arith) (omega arith))
+  parts-have (suc n) t s l h =
+      ⊎-elim (λ e. List·Memᴰ·head (ap part-of (sym e))) (λ k. List·Memᴰ·tail (parts-have n (suc t) s k (omega arith))) (eq-or-lt-of-le l)
 
   parts-only : (c : Configuration) (n t : ℕ) → List·Memᴰ c (parts-from n t i p q) → (s : ℕ) × (s < t + n) × (c ≡ part-of s)
   unfolding parts-from

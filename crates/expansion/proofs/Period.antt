@@ -14,7 +14,7 @@ use Rattle.expansion.proofs.Unrolling.{expansion-unrolled, at-each, som
 use Rattle.expansion.proofs.Recurrences.{Kept, kept-first, kept-next, last-row}
 
 module _ (M a : ℕ) (small : a < M) where
-  pub gcd-positive : 0 < gcd a M
+  gcd-positive : 0 < gcd a M
   gcd-positive = pos-of-dvd-of-pos (gcd-right a M .divides-second) (omega arith)
 
   -- a row that has the remainder 0 and keeps the divisors of a and M

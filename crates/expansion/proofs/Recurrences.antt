@@ -1,5 +1,5 @@
 -- From row to row: the recurrences, remainders that fall to the first 0, and q(i)·theta(i-1) + q(i-1)·theta(i) = M. Assumes nothing.
-use mathlib.Core.Path.{_≡_, refl, ap}
+use mathlib.Core.Path.{_≡_, refl, sym, _∙_, ap}
 use mathlib.Core.List.{List, _∷_}
 use Prim.Native.Nat.{ℕ, zero, suc, _+_, _*_, _/_, _%_, _≤_, _<_}
 use native.Mathlib.Nat.{mod-lt, div-add-mod', mul-le-mul-right}
@@ -59,8 +59,7 @@ last-row (next w r) (suc i) e = last-row r i (omega (arith, e))
 
 -- a single row has the remainder 0, and the first of several has not
 pub single-row : {t u p q : ℕ} {rs : List Row} → Rows t u p q rs → length rs ≡ 1 → u ≡ 0
-single-row end e = refl
-single-row (next w r) e = absurd (omega (arith, e, some-row r))
+single-row r e = sym (first-row r .0) ∙ last-row r 0 (sym e) .0
 
 pub several-rows : {t u p q : ℕ} {rs : List Row} → Rows t u p q rs → 1 < length rs → 0 < u
 several-rows end l = absurd (omega (arith, l))

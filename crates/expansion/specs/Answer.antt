@@ -23,13 +23,13 @@ table-of rs =
       last = length rs - 1;
     }
 
--- a table before it is filled: zeros
-abbrev pub empty-table : Table
-empty-table = record { remainders = replicate 89 0; denominators = replicate 89 0; quotients = replicate 89 0; last = 0 }
-
 -- a refusal: its number, and everything else 0
 abbrev pub refused : (number : ℕ) → Answer
-refused n = record { table = empty-table; refusal = n }
+refused n =
+    record {
+      table = record { remainders = replicate 89 0; denominators = replicate 89 0; quotients = replicate 89 0; last = 0 };
+      refusal = n;
+    }
 
 -- the answer where the tests give this number
 unfoldable pub answer-with : (number M a : ℕ) → Answer

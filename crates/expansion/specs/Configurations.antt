@@ -1,5 +1,5 @@
--- Two-length configurations (document 01: rungs): the counts q(i) + q(i-1) + t·q(i), with their labels. Where so many multiples of a are taken
--- modulo M, the gaps between them have at most two lengths; the crates of the searches prove and use that.
+-- Two-length configurations (document 01: rungs): the counts q(i) + q(i-1) + t·q(i), with their labels. Their name is that of 000, Property 1:
+-- so many multiples of a, taken modulo M, leave gaps of at most two lengths. That is no part of the definition, and not used in this crate.
 -- Assumes nothing: these are definitions.
 use mathlib.Core.Bool.{cond}
 use mathlib.Core.List.{List, [], _∷_, _++_, map}

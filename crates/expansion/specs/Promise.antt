@@ -4,12 +4,12 @@ use mathlib.Core.Path.{_≡_}
 use mathlib.Core.List.{List, [], _∷_, List·Memᴰ}
 use mathlib.Core.Logic.{_↔_, _⊎_}
 use Prim.Native.Nat.{ℕ, suc, _+_, _-_, _*_, _/_, _%_, _^_, _≤_, _<_}
-use lib.ListN.{length, getD}
+use lib.ListN.{length, getD, replicate}
 use Rattle.numbers.specs.Divisors.{gcd, Greatest-common-divisor}
 use Rattle.numbers.specs.Lists.{Ascending}
 use Rattle.expansion.specs.Rows.{expansion, last, remainder-at, denominator-at, quotient-at, remainder-before, denominator-before, period}
 use Rattle.expansion.specs.Configurations.{Configuration, configuration, none, counts, last-of, regular, fine}
-use Rattle.expansion.specs.Answer.{answer, empty-table}
+use Rattle.expansion.specs.Answer.{answer}
 use Rattle.expansion.specs.declared.Table.{Table}
 use Rattle.expansion.specs.declared.Answer.{Answer}
 
@@ -101,7 +101,8 @@ pub record Answer-right (M a : ℕ) (answered : Answer) : Type 0 where
   pub modulus-refused : (answered .refusal ≡ 1) ↔ ((M < 2) ⊎ (2 ^ 62 < M))
   pub step-refused : (answered .refusal ≡ 2) ↔ ((2 ≤ M) × (M ≤ 2 ^ 62) × (M ≤ a))
   pub accepted : (answered .refusal ≡ 0) ↔ ((2 ≤ M) × (M ≤ 2 ^ 62) × (a < M))
-  pub refused-empty : 0 < answered .refusal → answered .table ≡ empty-table
+  pub refused-empty : 0 < answered .refusal
+      → answered .table ≡ record { remainders = replicate 89 0; denominators = replicate 89 0; quotients = replicate 89 0; last = 0 }
   pub accepted-table : answered .refusal ≡ 0 → Table-right M a (answered .table)
 
 -- all of it: of every step below a modulus, and the answer of every two numbers

@@ -56,7 +56,7 @@ gcd-right =
     }))
 
 -- a common factor comes out
-pub gcd-scaled : (a b k : ℕ) → gcd (a * k) (b * k) ≡ gcd a b * k
+gcd-scaled : (a b k : ℕ) → gcd (a * k) (b * k) ≡ gcd a b * k
 gcd-scaled a b zero = rw (mul-zero a, mul-zero b, mul-zero (gcd a b)) (gcd-zero 0)
 gcd-scaled a b (suc k) =
     euclid (λ a b. gcd (a * suc k) (b * suc k) ≡ gcd a b * suc k)

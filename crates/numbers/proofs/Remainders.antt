@@ -1,8 +1,9 @@
 -- Quotients and remainders: how large a quotient is, and when two numbers leave the same remainder. Assumes nothing.
-use mathlib.Core.Path.{_≡_, _∙_, ap, subst}
+use mathlib.Core.Path.{_≡_, _∙_, subst}
 use Prim.Native.Nat.{ℕ, _+_, _*_, _-_, _/_, _%_, _≤_, _<_, _∣_}
-use native.Mathlib.Nat.{le-div-iff-mul-le, div-add-mod', mod-lt, mod-eq-of-lt, add-mul-mod-self-right, mul-lt-mul-of-pos-right, mul-le-mul-right, dvd-mul-left, dvd-sub, dvd-iff-mod-eq-zero, add-mod, mod-mod, add-zero, lt-of-not-le}
+use native.Mathlib.Nat.{le-div-iff-mul-le, mul-div-cancel, mul-mod-left, div-add-mod', mul-le-mul-right, dvd-mul-left, dvd-sub, dvd-iff-mod-eq-zero, add-mod, mod-mod, add-zero, lt-of-not-le}
 use native.Mathlib.Omega.{arith}
+use lib.Arith.{mod-mul}
 
 -- a number is at least once in a number that is not smaller
 pub quotient-positive : (t u : ℕ) → 0 < u → u ≤ t → 1 ≤ t / u
@@ -15,9 +16,7 @@ quotient-two t u h l e =
 
 -- a common factor comes out of a remainder
 pub scaled-remainder : (a b k : ℕ) → 0 < a → 0 < k → b * k % (a * k) ≡ b % a * k
-scaled-remainder a b k h l =
-    let e : b * k ≡ b % a * k + b / a * (a * k) = omega (arith, ap (λ (n : ℕ). n * k) (div-add-mod' b a)) in
-    rw (e, add-mul-mod-self-right) (mod-eq-of-lt (mul-lt-mul-of-pos-right (mod-lt b h) l))
+scaled-remainder a b k h l = mod-mul (b * k) h l ∙ rw (mul-div-cancel b l, mul-mod-left b k) (add-zero (b % a * k))
 
 -- a sum leaves the remainder of its first term exactly if the modulus divides the second
 module _ (m n k : ℕ) where

@@ -1,5 +1,7 @@
 -- `expansion::expand` meets its contract: each test that refuses is one of the definition's, in its order. Assumes nothing.
 use mathlib.Core.Path.{ap}
+use Prim.Native.Nat.{_^_}
+use native.Mathlib.Omega.{arith}
 use borrow.Author.Needs.{needs}
 use borrow.Author.Tests.{le-leb, lt-leb}
 use Rattle.expansion.specs.Answer.{answer, answer-with, refusal}
@@ -12,14 +14,18 @@ refuse-requires c κs = search needs
 
 returns : tie.Need-returns
 unfolding answer answer-with refusal
-returns c = rw (lt-leb _ _ (c .before .if1 .taken)) (c .refuse .ensures)
+returns c =
+    let a = c .before .before .args in
+    rw (lt-leb 2 (a .modulus) (omega arith)) (c .refuse .ensures)
 
 refuse-requires-2 : tie.Need-refuse-requires-2
 refuse-requires-2 c κs = search needs
 
 returns-2 : tie.Need-returns-2
 unfolding answer answer-with refusal
-returns-2 c = rw (le-leb _ _ (c .before .before .if1 .left), lt-leb _ _ (c .before .if2 .taken)) (c .refuse2 .ensures)
+returns-2 c =
+    let a = c .before .before .before .args in
+    rw (le-leb 2 (a .modulus) (omega arith), lt-leb (a .modulus) (2 ^ 62) (omega arith)) (c .refuse2 .ensures)
 
 refuse-requires-3 : tie.Need-refuse-requires-3
 refuse-requires-3 c κs = search needs
@@ -27,8 +33,8 @@ refuse-requires-3 c κs = search needs
 returns-3 : tie.Need-returns-3
 unfolding answer answer-with refusal
 returns-3 c =
-    rw (le-leb _ _ (c .before .before .before .if1 .left), le-leb _ _ (c .before .before .if2 .left), le-leb _ _ (c .before .if3 .taken))
-    (c .refuse3 .ensures)
+    let a = c .before .before .before .before .args in
+    rw (le-leb 2 (a .modulus) (omega arith), le-leb (a .modulus) (2 ^ 62) (omega arith), le-leb (a .modulus) (a .step) (omega arith)) (c .refuse3 .ensures)
 
 fill-requires : tie.Need-fill-requires
 fill-requires c κs = search needs
@@ -36,7 +42,8 @@ fill-requires c κs = search needs
 returns-4 : tie.Need-returns-4
 unfolding answer answer-with refusal
 returns-4 c =
-    rw (le-leb _ _ (c .before .before .before .if1 .left), le-leb _ _ (c .before .before .if2 .left), lt-leb _ _ (c .before .if3 .left))
+    let a = c .before .before .before .before .args in
+    rw (le-leb 2 (a .modulus) (omega arith), le-leb (a .modulus) (2 ^ 62) (omega arith), lt-leb (a .modulus) (a .step) (omega arith))
     (ap (λ (t : Table). record { table = t; refusal = 0 }) (c .fill .ensures))
 
 pub expand-spec : {M : Type 1} → statement M
