@@ -52,9 +52,10 @@ fn fill(modulus: u64, step: u64) -> Table
     let mut remainder = step;
     let mut denominator_before: u64 = 0;
     let mut denominator: u64 = 1;
+    let mut quotient: u64 = 0;
     let mut row: usize = 0;
     while remainder != 0 {
-        let quotient = before / remainder;
+        quotient = before / remainder;
         let rest = before % remainder;
         remainders[row] = remainder;
         denominators[row] = denominator;

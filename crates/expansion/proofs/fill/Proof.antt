@@ -10,11 +10,11 @@ use Rattle.expansion.proofs.fill.Statement.{statement}
 use Rattle.expansion.proofs.fill.Tie as tie
 
 abbrev Inv-loop : tie.InvT-loop
-Inv-loop modulus step _ _ _ _ _ _ _ _ remainders denominators quotients before remainder denominator-before denominator row =
+Inv-loop modulus step _ _ _ _ _ _ _ _ _ remainders denominators quotients before remainder denominator-before denominator _ row =
     Filled modulus step (columns remainders denominators quotients) before remainder denominator-before denominator row
 
 abbrev μ-loop : tie.MeasureT-loop
-μ-loop _ _ _ _ _ _ _ _ _ _ _ _ _ _ remainder _ _ _ = remainder
+μ-loop _ _ _ _ _ _ _ _ _ _ _ _ _ _ _ remainder _ _ _ _ = remainder
 
 -- in a turn the next denominator, and the product in it, are at most the modulus
 next-fits : (c : tie.In-loop Inv-loop μ-loop)
