@@ -194,7 +194,7 @@ fn fibonacci_pairs() -> Result<usize, String> {
     all(pairs)
 }
 
-/// The last denominator is the period, by going through the multiples.
+/// The reference's last denominator, with which the call's is compared above, is the period: by going through the multiples.
 fn periods() -> Result<usize, String> {
     let mut count = 0;
     for modulus in 2..=400 {

@@ -1,12 +1,11 @@
 -- The answer of the call: when each refusal is given, and what the table holds at each place. Assumes nothing.
 use mathlib.Core.Path.{_≡_, refl}
-use mathlib.Core.Bool.{Bool, true, false, not, _&&_, cond}
 use mathlib.Core.List.{map}
 use mathlib.Core.Logic.{_↔_, _⊎_, inl, inr, ⊎-elim}
 use Prim.Native.Nat.{ℕ, _^_, _≤_, _<_}
+use native.Mathlib.Decide.{decLt, decLe}
 use native.Mathlib.Omega.{arith}
-use borrow.Author.Tests.{leb-true, leb-false}
-use lib.Dec.{leb}
+use borrow.Author.Tests.{le-leb, lt-leb}
 use lib.ListN.{getD, length-map}
 use Rattle.numbers.specs.Lists.{zero-padded}
 use Rattle.numbers.proofs.Lists.{padded-places, padded-front, padded-after}
@@ -15,6 +14,24 @@ use Rattle.expansion.specs.Answer.{table-of, refused, refusal, answer-wi
 use Rattle.expansion.specs.Promise.{Column-right, Table-right, Answer-right}
 use Rattle.expansion.proofs.Length.{few-rows}
 use Rattle.expansion.proofs.RowLaws.{last-index}
+
+-- what the call answers, case by case: the only place that opens the definition's tests
+module _ (M a : ℕ) where
+  pub below-two : M < 2 → answer M a ≡ refused 1
+  unfolding answer answer-with refusal
+  below-two h = rw (lt-leb 2 M h)
+
+  pub above-largest : 2 ≤ M → 2 ^ 62 < M → answer M a ≡ refused 1
+  unfolding answer answer-with refusal
+  above-largest l h = rw (le-leb 2 M l, lt-leb M (2 ^ 62) h)
+
+  pub step-outside : 2 ≤ M → M ≤ 2 ^ 62 → M ≤ a → answer M a ≡ refused 2
+  unfolding answer answer-with refusal
+  step-outside l h k = rw (le-leb 2 M l, le-leb M (2 ^ 62) h, le-leb M a k)
+
+  pub within : 2 ≤ M → M ≤ 2 ^ 62 → a < M → answer M a ≡ record { table = table-of (expansion M a); refusal = 0 }
+  unfolding answer answer-with refusal
+  within l h k = rw (le-leb 2 M l, le-leb M (2 ^ 62) h, lt-leb M a k)
 
 module _ (M a : ℕ) (small : a < M) (most : M ≤ 2 ^ 62) where
   column-right : (g : Row → ℕ) → Column-right M a (zero-padded 89 (map g (expansion M a))) (λ i. getD (map g (expansion M a)) i 0)
@@ -44,39 +61,44 @@ neither : {P Q : Type 0} → (P → ⊥) → (Q → ⊥) → P ↔ Q
 neither p q = (λ h. absurd (p h), λ h. absurd (q h))
 
 pub answer-right : (M a : ℕ) → Answer-right M a (answer M a)
-unfolding answer refusal
-answer-right M a = tested (leb 2 M) (leb M (2 ^ 62)) (leb M a) refl refl refl
+answer-right M a = from-two (decLt M 2)
   where
-    -- a modulus that is outside by either test
     outside : (M < 2) ⊎ (2 ^ 62 < M) → Answer-right M a (refused 1)
     outside o =
-        let no : (2 ≤ M) × (M ≤ 2 ^ 62) → ⊥ = λ w. ⊎-elim (λ h. omega (arith, h, w)) (λ h. omega (arith, h, w)) o in
+        let no-modulus : (2 ≤ M) × (M ≤ 2 ^ 62) → ⊥ = λ w. ⊎-elim (λ h. omega (arith, h, w)) (λ h. omega (arith, h, w)) o in
         record {
           modulus-refused = both refl o;
-          step-refused = neither (omega arith) (λ w. no (w .0, w .1));
-          accepted = neither (omega arith) (λ w. no (w .0, w .1));
+          step-refused = neither (omega arith) (λ w. no-modulus (w .0, w .1));
+          accepted = neither (omega arith) (λ w. no-modulus (w .0, w .1));
           refused-empty = λ h. refl;
           accepted-table = λ e. absurd (omega (arith, e));
         }
 
-    tested : (b c d : Bool) → leb 2 M ≡ b → leb M (2 ^ 62) ≡ c → leb M a ≡ d → Answer-right M a (answer-with (cond (not (b && c)) 1 (cond d 2 0)) M a)
-    tested false c d e f g = unfold answer-with in outside (inl (leb-false 2 M e))
-    tested true false d e f g = unfold answer-with in outside (inr (leb-false M (2 ^ 62) f))
-    tested true true true e f g =
-        let h : (2 ≤ M) × (M ≤ 2 ^ 62) × (M ≤ a) = (leb-true 2 M e, leb-true M (2 ^ 62) f, leb-true M a g) in
-        unfold answer-with in record {
+    of-step : 2 ≤ M → M ≤ 2 ^ 62 → Dec (M ≤ a) → Answer-right M a (answer M a)
+    of-step l h (yes k) =
+        rw (step-outside M a l h k)
+        (record {
           modulus-refused = neither (omega arith) (⊎-elim (omega arith) (omega arith));
-          step-refused = both refl h;
+          step-refused = both refl (l, h, k);
           accepted = neither (omega arith) (omega arith);
-          refused-empty = λ h. refl;
+          refused-empty = λ p. refl;
           accepted-table = λ e. absurd (omega (arith, e));
-        }
-    tested true true false e f g =
-        let h : (2 ≤ M) × (M ≤ 2 ^ 62) × (a < M) = (leb-true 2 M e, leb-true M (2 ^ 62) f, leb-false M a g) in
-        unfold answer-with in record {
+        })
+    of-step l h (no k) =
+        let small : a < M = omega arith in
+        rw (within M a l h small)
+        (record {
           modulus-refused = neither (omega arith) (⊎-elim (omega arith) (omega arith));
           step-refused = neither (omega arith) (omega arith);
-          accepted = both refl h;
-          refused-empty = λ l. absurd (omega (arith, l));
-          accepted-table = λ e. table-right M a (h .2) (h .1);
-        }
+          accepted = both refl (l, h, small);
+          refused-empty = λ p. absurd (omega (arith, p));
+          accepted-table = λ e. table-right M a small h;
+        })
+
+    to-largest : 2 ≤ M → Dec (2 ^ 62 < M) → Answer-right M a (answer M a)
+    to-largest l (yes h) = rw (above-largest M a l h) (outside (inr h))
+    to-largest l (no h) = of-step l (omega arith) (decLe M a)
+
+    from-two : Dec (M < 2) → Answer-right M a (answer M a)
+    from-two (yes h) = rw (below-two M a h) (outside (inl h))
+    from-two (no h) = to-largest (omega arith) (decLt (2 ^ 62) M)

@@ -1,10 +1,10 @@
 pub mod Unrolling
 pub mod Recurrences
 pub mod Length
+pub mod RowLaws
 pub mod Period
 pub mod Regular
 pub mod Fine
-pub mod RowLaws
 pub mod ConfigurationLaws
 pub mod Answers
 pub mod Promises

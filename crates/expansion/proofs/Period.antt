@@ -1,17 +1,18 @@
--- The last denominator is M / gcd(a, M), and two multiples of a agree modulo M exactly if the last denominator divides their distance.
--- Assumes nothing.
+-- The last denominator is M / gcd(a, M), and two multiples of a agree modulo M exactly if the last denominator divides their distance:
+-- the record `Period-right` of specs/Promise.antt. Assumes nothing.
 use mathlib.Core.Path.{_≡_, refl, sym, _∙_, ap, subst}
 use mathlib.Core.Logic.{_↔_}
-use Prim.Native.Nat.{ℕ, _+_, _-_, _*_, _/_, _%_, _<_, _∣_}
-use native.Mathlib.Nat.{div-eq-of-eq-mul-left, dvd-of-mul-dvd-mul-left, pos-of-dvd-of-pos, mul-dvd-mul, mul-add, mul-comm}
+use Prim.Native.Nat.{ℕ, _+_, _*_, _/_, _%_, _<_, _∣_}
+use native.Mathlib.Nat.{div-eq-of-eq-mul-left, dvd-of-mul-dvd-mul-left, pos-of-dvd-of-pos, mul-dvd-mul, mul-add, mul-comm, dvd-refl, le-of-dvd}
 use native.Mathlib.Omega.{arith}
-use lib.ListN.{length}
 use Rattle.numbers.specs.Divisors.{gcd}
 use Rattle.numbers.proofs.Remainders.{divides-if-same, same-if-divides}
 use Rattle.numbers.proofs.Divisors.{gcd-zero, gcd-step, gcd-right, divides-scaled}
-use Rattle.expansion.specs.Rows.{expansion, last, denominator-at, period}
-use Rattle.expansion.proofs.Unrolling.{expansion-unrolled, at-each, some-row}
-use Rattle.expansion.proofs.Recurrences.{Kept, kept-first, kept-next, last-row}
+use Rattle.expansion.specs.Rows.{last, remainder-at, denominator-at, remainder-before, period}
+use Rattle.expansion.specs.Promise.{Period-right}
+use Rattle.expansion.proofs.Unrolling.{expansion-unrolled, at-each}
+use Rattle.expansion.proofs.Recurrences.{Kept}
+use Rattle.expansion.proofs.RowLaws.{last-index, kept, rows-right}
 
 module _ (M a : ℕ) (small : a < M) where
   gcd-positive : 0 < gcd a M
@@ -23,17 +24,15 @@ module _ (M a : ℕ) (small : a < M) where
       let b : t ≡ gcd a M = sym (gcd-zero t) ∙ (rw z at g) in
       omega (arith, k .whole, ap (λ (n : ℕ). q * n) b, ap (λ (n : ℕ). p * n) z)
 
-  pub period-gcd : period M a * gcd a M ≡ M
-  unfolding period denominator-at last
+  period-gcd : period M a * gcd a M ≡ M
+  unfolding period denominator-at remainder-at
   period-gcd =
-      let r = expansion-unrolled M a in
-      let n = some-row r in
-      let i : ℕ = length (expansion M a) - 1 in
-      at-zero (at-each (Kept M) (λ t u p q h k. kept-next k h) r (kept-first small) i (omega arith))
-      (at-each (λ t u p q. gcd u t ≡ gcd a M) (λ t u p q h e. sym (gcd-step u t h) ∙ e) r refl i (omega arith))
-      (last-row r i (omega arith) .0)
+      at-zero (kept M a small (last M a) (omega arith))
+      (unfold remainder-before in
+      at-each (λ t u p q. gcd u t ≡ gcd a M) (λ t u p q h e. sym (gcd-step u t h) ∙ e) (expansion-unrolled M a) refl (last M a) (omega (arith, last-index M a)))
+      (rows-right M a small .last-remainder)
 
-  pub period-is : period M a ≡ M / gcd a M
+  period-is : period M a ≡ M / gcd a M
   period-is = sym (div-eq-of-eq-mul-left gcd-positive (sym period-gcd))
 
   modulus-is : gcd a M * period M a ≡ M
@@ -54,3 +53,16 @@ module _ (M a : ℕ) (small : a < M) where
           rw mul-add
           (same-if-divides M (a * x) (a * y)
           (subst (λ (n : ℕ). n ∣ a * y) modulus-is (mul-dvd-mul (gcd a M) (period M a) (gcd-right a M .divides-first) d)))
+
+  pub period-right : Period-right M a
+  unfolding period
+  period-right =
+      record {
+        last-denominator = refl;
+        divisor = gcd-right a M;
+        divisor-of-zero = gcd-zero M;
+        by-divisor = period-is;
+        exact = period-gcd;
+        repeats = λ x. agree x (period M a) .1 (dvd-refl (period M a));
+        not-before = λ x y h l e. omega (arith, le-of-dvd h (agree x y .0 e));
+      }

@@ -1,6 +1,7 @@
 -- All that is promised of the expansion. Assumes nothing.
 use Rattle.expansion.specs.Promise.{Promised}
-use Rattle.expansion.proofs.RowLaws.{rows-right, rows-few, period-right}
+use Rattle.expansion.proofs.RowLaws.{rows-right, rows-few}
+use Rattle.expansion.proofs.Period.{period-right}
 use Rattle.expansion.proofs.ConfigurationLaws.{regular-right, fine-right}
 use Rattle.expansion.proofs.Answers.{answer-right}
 

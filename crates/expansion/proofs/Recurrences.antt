@@ -39,6 +39,7 @@ pub record Neighbours (t u p q k u′ q′ : ℕ) : Type 0 where
   pub left-over : u′ ≡ t % u
   pub joined : q′ ≡ p + k * q
 
+-- quotient and remainder make up the remainder before
 pub rejoined : {t u p q k u′ q′ : ℕ} → Neighbours t u p q k u′ q′ → k * u + u′ ≡ t
 rejoined {t} {u} n = omega (arith, n .left-over, ap (λ (k : ℕ). k * u) (n .drawn), div-add-mod' t u)
 

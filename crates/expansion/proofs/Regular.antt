@@ -15,6 +15,7 @@ use Rattle.expansion.proofs.Unrolling.{Rows, some-row}
 use Rattle.expansion.proofs.Unrolling.Rows.{end, next}
 use Rattle.expansion.proofs.Recurrences.{Kept, kept-next}
 
+-- configurations are equal that agree in count, index and part
 pub relabelled : {n n′ i i′ t t′ : ℕ} → n ≡ n′ → i ≡ i′ → t ≡ t′ → configuration n i t ≡ configuration n′ i′ t′
 relabelled e f g = λ j. record { count = e j; index = f j; part = g j }
 

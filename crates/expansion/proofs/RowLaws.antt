@@ -1,17 +1,15 @@
--- The rows of the expansion of every step below a modulus, by index, and its period: the first three records of specs/Promise.antt.
+-- The rows of the expansion of every step below a modulus, by index: the records `Rows-right` and `Rows-few` of specs/Promise.antt.
 -- Assumes nothing.
 use mathlib.Core.Path.{_≡_, refl, sym}
 use Prim.Native.Nat.{ℕ, suc, _-_, _≤_, _<_}
-use native.Mathlib.Nat.{lt-of-not-le, dvd-refl, le-of-dvd}
+use native.Mathlib.Nat.{lt-of-not-le}
 use native.Mathlib.Omega.{arith}
 use lib.ListN.{length}
-use Rattle.expansion.specs.Rows.{expansion, last, remainder-at, denominator-at, quotient-at, remainder-before, denominator-before, period}
-use Rattle.expansion.specs.Promise.{Rows-right, Rows-few, Period-right}
+use Rattle.expansion.specs.Rows.{expansion, last, remainder-at, denominator-at, quotient-at, remainder-before, denominator-before}
+use Rattle.expansion.specs.Promise.{Rows-right, Rows-few}
 use Rattle.expansion.proofs.Unrolling.{expansion-unrolled, at-each, some-row, first-row}
 use Rattle.expansion.proofs.Recurrences.{Kept, kept-first, kept-next, Neighbours, neighbours, rejoined, single-row, last-row, last-drawn}
 use Rattle.expansion.proofs.Length.{few-rows}
-use Rattle.numbers.proofs.Divisors.{gcd-zero, gcd-right}
-use Rattle.expansion.proofs.Period.{period-gcd, period-is, agree}
 
 -- there is one row more than the last index
 pub last-index : (M a : ℕ) → suc (last M a) ≡ length (expansion M a)
@@ -60,17 +58,4 @@ module _ (M a : ℕ) (small : a < M) where
         rows-to-last = sym (last-index M a);
         at-most-89 = few-rows M a small;
         last-at-most-88 = λ l. omega (arith, few-rows M a small l, last-index M a);
-      }
-
-  pub period-right : Period-right M a
-  unfolding period
-  period-right =
-      record {
-        last-denominator = refl;
-        divisor = gcd-right a M;
-        divisor-of-zero = gcd-zero M;
-        by-divisor = period-is M a small;
-        exact = period-gcd M a small;
-        repeats = λ x. agree M a small x (period M a) .1 (dvd-refl (period M a));
-        not-before = λ x y h l e. omega (arith, le-of-dvd h (agree M a small x y .0 e));
       }
