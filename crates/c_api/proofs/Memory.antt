@@ -1,9 +1,17 @@
 -- What is left in memory after a refusal and after an answer. Assumes nothing.
 use mathlib.Core.Path.{_≡_, refl, sym}
+use mathlib.Core.List.{List, [], _∷_}
 use Prim.Native.Nat.{ℕ, zero, suc}
 use Rattle.expansion.specs.declared.Table.{Table}
 use Rattle.expansion.specs.declared.Answer.{Answer}
-use Rattle.c_api.specs.Memory.{unless-refused, Delivered}
+use Rattle.segment.specs.declared.Regular.{Regular}
+use Rattle.segment.specs.declared.Fine.{Fine}
+use Rattle.segment.specs.declared.RegularAnswer.{RegularAnswer}
+use Rattle.segment.specs.declared.RegularAnswer.the-variants as regular-variants
+use Rattle.segment.specs.declared.FineAnswer.{FineAnswer}
+use Rattle.segment.specs.declared.FineAnswer.the-variants as fine-variants
+use Rattle.segment.specs.Answer.{regular-refusal, fine-refusal}
+use Rattle.c_api.specs.Memory.{unless-refused, Delivered, verdict-number, regular-memory, fine-memory}
 
 unchanged : {A : Type 0} (number : ℕ) (old answered : A) → (number ≡ 0 → ⊥) → old ≡ unless-refused number old answered
 unfolding unless-refused
@@ -16,3 +24,25 @@ refused e {old} h = record { returned = refl; left = unchanged (e .refusal) old 
 pub answered : (e : Answer) {old : Table} → e .refusal ≡ 0 → Delivered e 0 old (e .table)
 unfolding unless-refused
 answered e h = record { returned = sym h; left = rw h }
+
+-- ---- the searches
+
+module _ {a : RegularAnswer} (old : List ℕ) where
+  pub regular-refused : {n : ℕ} → a ≡ regular-variants.Refused n → (n ≡ regular-refusal a) × (old ≡ regular-memory a old)
+  unfolding regular-refusal regular-memory
+  regular-refused e = rw e (refl, refl)
+
+  pub regular-shown : {r : Regular} {v : ℕ} → a ≡ regular-variants.Shown r → v ≡ verdict-number (r .verdict)
+      → (0 ≡ regular-refusal a) × (r .count ∷ r .quotients ∷ r .distance ∷ r .argument ∷ v ∷ [] ≡ regular-memory a old)
+  unfolding regular-refusal regular-memory
+  regular-shown e f = rw (e, f) (refl, refl)
+
+module _ {a : FineAnswer} (old : List ℕ) where
+  pub fine-refused : {n : ℕ} → a ≡ fine-variants.Refused n → (n ≡ fine-refusal a) × (old ≡ fine-memory a old)
+  unfolding fine-refusal fine-memory
+  fine-refused e = rw e (refl, refl)
+
+  pub fine-shown : {f : Fine} {v : ℕ} → a ≡ fine-variants.Shown f → v ≡ verdict-number (f .verdict)
+      → (0 ≡ fine-refusal a) × (f .count ∷ f .index ∷ f .part ∷ f .distance ∷ f .argument ∷ v ∷ [] ≡ fine-memory a old)
+  unfolding fine-refusal fine-memory
+  fine-shown e g = rw (e, g) (refl, refl)

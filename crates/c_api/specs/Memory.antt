@@ -1,9 +1,15 @@
 -- What a call returns and leaves in the caller's memory. Assumes nothing: these are definitions.
 use mathlib.Core.Path.{_≡_}
-use mathlib.Core.List.{List}
+use mathlib.Core.List.{List, [], _∷_}
 use Prim.Native.Nat.{ℕ, zero, suc}
 use Rattle.expansion.specs.declared.Table.{Table}
 use Rattle.expansion.specs.declared.Answer.{Answer}
+use Rattle.segment.specs.declared.Verdict.{Verdict}
+use Rattle.segment.specs.declared.Verdict.the-variants.{Clear, Possible}
+use Rattle.segment.specs.declared.RegularAnswer.{RegularAnswer}
+use Rattle.segment.specs.declared.RegularAnswer.the-variants as regular-variants
+use Rattle.segment.specs.declared.FineAnswer.{FineAnswer}
+use Rattle.segment.specs.declared.FineAnswer.the-variants as fine-variants
 
 -- on a refusal what was there, else what is answered
 unfoldable pub unless-refused : {A : Type 0} → (refusal : ℕ) → (old answered : A) → A
@@ -18,3 +24,18 @@ memory us qs ks n = record { remainders = us; denominators = qs; quotients = ks;
 pub record Delivered (answered : Answer) (number : ℕ) (old new : Table) : Type 0 where
   pub returned : number ≡ answered .refusal
   pub left : new ≡ unless-refused (answered .refusal) old (answered .table)
+
+-- clear is 1, possible 0
+unfoldable pub verdict-number : Verdict → ℕ
+verdict-number Clear = 1
+verdict-number Possible = 0
+
+-- the five numbers that a regular search leaves: those that it shows, or what was there
+unfoldable pub regular-memory : RegularAnswer → (old : List ℕ) → List ℕ
+regular-memory (regular-variants.Refused n) old = old
+regular-memory (regular-variants.Shown r) old = r .count ∷ r .quotients ∷ r .distance ∷ r .argument ∷ verdict-number (r .verdict) ∷ []
+
+-- the six numbers that a fine search leaves
+unfoldable pub fine-memory : FineAnswer → (old : List ℕ) → List ℕ
+fine-memory (fine-variants.Refused n) old = old
+fine-memory (fine-variants.Shown f) old = f .count ∷ f .index ∷ f .part ∷ f .distance ∷ f .argument ∷ verdict-number (f .verdict) ∷ []

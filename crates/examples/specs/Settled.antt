@@ -1,10 +1,16 @@
 -- Document 01's settled examples marked P, as one statement with a field for each that is proved so far. Assumes nothing: these are statements.
 use mathlib.Core.Path.{_≡_}
 use mathlib.Core.List.{[], _∷_}
+use Prim.Native.Nat.{ℕ}
 use lib.ListN.{replicate}
 use Rattle.expansion.specs.Rows.{expansion, remainders, denominators, quotients}
 use Rattle.expansion.specs.Configurations.{counts, regular, fine}
 use Rattle.expansion.specs.Answer.{answer}
+use Rattle.segment.specs.Segment.{segment}
+use Rattle.segment.specs.Answer.{verdict-at, regular-shown, fine-shown, regular-answer, fine-answer}
+use Rattle.segment.specs.declared.Verdict.the-variants.{Clear, Possible}
+use Rattle.segment.specs.declared.RegularAnswer.the-variants as regular-variants
+use Rattle.segment.specs.declared.FineAnswer.the-variants as fine-variants
 
 -- the expansion of 45 and 14, the call's whole answer, and the counts of its regular and fine configurations
 pub record Example-1 : Type 0 where
@@ -25,6 +31,68 @@ pub record Example-1 : Type 0 where
   pub regular-counts : counts (regular 45 14) ≡ 1 ∷ 4 ∷ 16 ∷ 29 ∷ 45 ∷ []
   pub fine-counts : counts (fine 45 14) ≡ 1 ∷ 2 ∷ 3 ∷ 4 ∷ 7 ∷ 10 ∷ 13 ∷ 16 ∷ 29 ∷ 45 ∷ []
 
+-- M 45, a 14, b 44, N 16, w 1, regular: n 16, index 2, distance 2 at 3, clear
+abbrev pub Example-2 : Type 0
+Example-2 =
+    regular-answer 45 14 44 16 1
+    ≡ regular-variants.Shown (record { count = 16; quotients = 2; distance = 2; argument = 3; verdict = Clear })
+
+-- the same with N 17: n 29, index 3, distance 0 at 16, possible
+abbrev pub Example-3 : Type 0
+Example-3 =
+    regular-answer 45 14 44 17 1
+    ≡ regular-variants.Shown (record { count = 29; quotients = 3; distance = 0; argument = 16; verdict = Possible })
+
+-- b 8, N 5, w 1: regular n 16, distance 0 at 7, possible; fine n 7, label (1, 1), distance 8 at 0, clear
+pub record Example-4 : Type 0 where
+  pub by-regular : regular-answer 45 14 8 5 1
+      ≡ regular-variants.Shown (record { count = 16; quotients = 2; distance = 0; argument = 7; verdict = Possible })
+  pub by-fine : fine-answer 45 14 8 5 1
+      ≡ fine-variants.Shown (record { count = 7; index = 1; part = 1; distance = 8; argument = 0; verdict = Clear })
+
+-- M 45, a 0, b 9, N 1,048,576: n 1, distance 9 at 0; w 9 clear, w 10 possible; by either search
+pub record Example-5 : Type 0 where
+  pub regular-clear : regular-answer 45 0 9 1048576 9
+      ≡ regular-variants.Shown (record { count = 1; quotients = 0; distance = 9; argument = 0; verdict = Clear })
+  pub regular-possible : regular-answer 45 0 9 1048576 10
+      ≡ regular-variants.Shown (record { count = 1; quotients = 0; distance = 9; argument = 0; verdict = Possible })
+  pub fine-clear : fine-answer 45 0 9 1048576 9
+      ≡ fine-variants.Shown (record { count = 1; index = 0; part = 0; distance = 9; argument = 0; verdict = Clear })
+  pub fine-possible : fine-answer 45 0 9 1048576 10
+      ≡ fine-variants.Shown (record { count = 1; index = 0; part = 0; distance = 9; argument = 0; verdict = Possible })
+
+-- M 45, a 15, b 44, N 10, fine: n 3, label (0, 2), distance 14 at 2; the window is not told
+abbrev pub Example-6 : Type 0
+Example-6 =
+    (w : ℕ)
+    → fine-shown (segment 45 15 44 10 w) ≡ record { count = 3; index = 0; part = 2; distance = 14; argument = 2; verdict = verdict-at 14 w }
+
+-- M 45, a 44, b 0, N 3: regular n 45, index 2; fine n 3, label (1, 1); the window is not told, nor that both show distance 0 at 0
+pub record Example-7 : Type 0 where
+  pub by-regular : (w : ℕ)
+      → regular-shown (segment 45 44 0 3 w) ≡ record { count = 45; quotients = 2; distance = 0; argument = 0; verdict = verdict-at 0 w }
+  pub by-fine : (w : ℕ)
+      → fine-shown (segment 45 44 0 3 w) ≡ record { count = 3; index = 1; part = 1; distance = 0; argument = 0; verdict = verdict-at 0 w }
+
+-- M 45, a 14, b 44, N 1: n 1, distance 44; by either search; the window is not told
+pub record Example-8 : Type 0 where
+  pub by-regular : (w : ℕ)
+      → regular-shown (segment 45 14 44 1 w) ≡ record { count = 1; quotients = 0; distance = 44; argument = 0; verdict = verdict-at 44 w }
+  pub by-fine : (w : ℕ)
+      → fine-shown (segment 45 14 44 1 w) ≡ record { count = 1; index = 0; part = 0; distance = 44; argument = 0; verdict = verdict-at 44 w }
+  -- with a window of 44, the whole answers
+  pub regular-answers : regular-answer 45 14 44 1 44
+      ≡ regular-variants.Shown (record { count = 1; quotients = 0; distance = 44; argument = 0; verdict = Clear })
+  pub fine-answers : fine-answer 45 14 44 1 44
+      ≡ fine-variants.Shown (record { count = 1; index = 0; part = 0; distance = 44; argument = 0; verdict = Clear })
+
 -- all of them
 pub record Settled : Type 0 where
   pub p1 : Example-1
+  pub p2 : Example-2
+  pub p3 : Example-3
+  pub p4 : Example-4
+  pub p5 : Example-5
+  pub p6 : Example-6
+  pub p7 : Example-7
+  pub p8 : Example-8

@@ -29,7 +29,7 @@ module _ (M a : ℕ) (small : a < M) where
   unfolding fine
   fine-of-zero e = rw e
 
-  fine-of-rows : 0 < a → fine M a ≡ fine-from 0 0 (expansion M a)
+  pub fine-of-rows : 0 < a → fine M a ≡ fine-from 0 0 (expansion M a)
   unfolding fine
   fine-of-rows h = rw (ne-eqb a 0 (λ e. omega (arith, e, h)))
 
@@ -87,10 +87,14 @@ module _ (M a : ℕ) (small : a < M) where
       (λ h. rw (fine-of-rows h) (fine-first (expansion-unrolled M a) small h 0))
       (eq-zero-or-pos a)
 
-  fine-ascends : Ascending-from 0 (counts (fine M a))
+  pub regular-ascends : Ascending-from 1 (counts (regular M a))
+  unfolding regular
+  regular-ascends = regular-ascend (expansion-unrolled M a) (kept-first small) 0 1 (omega arith) (λ e. omega arith)
+
+  pub fine-ascends : Ascending-from 1 (counts (fine M a))
   fine-ascends =
-      ⊎-elim (λ e. rw (fine-of-zero e) (ascending-cons {n = 0} {x = 1} (omega arith) ascending-nil))
-      (λ h. rw (fine-of-rows h) (fine-ascend (expansion-unrolled M a) (kept-first small) 0 0 (omega arith)))
+      ⊎-elim (λ e. rw (fine-of-zero e) (ascending-cons {n = 1} {x = 1} (omega arith) ascending-nil))
+      (λ h. rw (fine-of-rows h) (fine-ascend (expansion-unrolled M a) (kept-first small) 0 1 (omega arith)))
       (eq-zero-or-pos a)
 
   quotient-some : (i : ℕ) → i < last M a → 0 < quotient-at M a i
@@ -105,7 +109,7 @@ module _ (M a : ℕ) (small : a < M) where
         of-row = regular-of-row;
         last-one = regular-last;
         first-one = regular-first;
-        ascend = unfold regular in ascending (regular-ascend (expansion-unrolled M a) (kept-first small) 0 0 (omega arith) (λ e. omega arith));
+        ascend = ascending regular-ascends;
         among-fine = λ i l. Memᴰ·cast (regular-of-row i l ∙ relabelled (omega arith) refl refl) (fine-has-right i 0 l (quotient-some i l));
         last-among-fine =
             ⊎-elim (λ e. ap (λ (cs : List Configuration). last-of cs .count) (regular-of-zero e ∙ sym (fine-of-zero e)))

@@ -141,7 +141,7 @@ fine-none : {t u p q : ℕ} {rs : List Row} → Rows t u p q rs → (i : ℕ) �
 fine-none (end {t} {p} {q}) i e = fine-end i p q
 fine-none (next w r) i e = absurd (omega (arith, e, w))
 
-fine-some : {t u p q : ℕ} {rs : List Row} → Rows t u p q rs → (i : ℕ) → u < t → 0 < u → 0 < length (fine-from i p rs)
+pub fine-some : {t u p q : ℕ} {rs : List Row} → Rows t u p q rs → (i : ℕ) → u < t → 0 < u → 0 < length (fine-from i p rs)
 fine-some end i l h = absurd (omega (arith, h))
 fine-some (next {t} {u} {p} {q} {rs} w r) i l h =
     rw fine-next

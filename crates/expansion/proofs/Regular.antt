@@ -23,7 +23,7 @@ pub regular-next : (i p u q k : ℕ) (rs : List Row) → 0 < u → regular-from 
 unfolding regular-from
 regular-next i p u q k rs h = rw (ne-eqb u 0 (λ e. omega (arith, e)))
 
-regular-end : (i p q : ℕ) → regular-from i p (row 0 q 0 ∷ []) ≡ configuration q i 0 ∷ []
+pub regular-end : (i p q : ℕ) → regular-from i p (row 0 q 0 ∷ []) ≡ configuration q i 0 ∷ []
 unfolding regular-from
 regular-end i p q = refl
 

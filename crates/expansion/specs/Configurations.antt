@@ -39,7 +39,7 @@ regular-from i p (r ∷ rs) =
 unfoldable pub regular : (M a : ℕ) → List Configuration
 regular M a = regular-from 0 0 (expansion M a)
 
--- q + p + t·q for t and as many after it as are left
+-- q + p + t·q, for as many t from this one on as are left
 unfoldable pub parts-from : (left t i p q : ℕ) → List Configuration
 parts-from zero t i p q = []
 parts-from (suc n) t i p q = configuration (q + p + t * q) i t ∷ parts-from n (suc t) i p q

@@ -1,0 +1,151 @@
+//! Both searches of random segments with a modulus from 2^61 to 2^62: the proved calls, the same searches in unverified Rust, and
+//! Lefèvre's published search. The windows leave about one segment in a thousand not clear.
+
+#[path = "../tests/c_api.rs"]
+mod c_api;
+mod tuned;
+
+use std::hint::black_box;
+use std::time::Instant;
+
+const SEGMENTS: usize = 4096;
+const REPETITIONS: usize = 201;
+
+#[derive(Clone, Copy)]
+struct Segment {
+    modulus: u64,
+    step: u64,
+    start: u64,
+    count: u64,
+    window: u64,
+}
+
+/// Lefèvre's search as 000 prints it (Algorithm 1, with its letters), by division instructions and without the further ones that
+/// 000 leaves out, which shorten long runs of subtractions. It answers clear or not and nothing else, and divides by zero where a
+/// length becomes 0, as none does in segments like these.
+#[inline(never)]
+fn lefevre(modulus: u64, step: u64, start: u64, count: u64, window: u64, clear: &mut bool) -> u32 {
+    let refusal = tuned::refusal(modulus, step, start, count, window);
+    if refusal == 0 {
+        *clear = lefevre_clears(modulus, step, start, count, window);
+    }
+    refusal
+}
+
+#[inline(always)]
+fn lefevre_clears(modulus: u64, step: u64, start: u64, count: u64, window: u64) -> bool {
+    let (mut p, mut q, mut d, mut u, mut v) = (step, modulus - step, start, 1, 1);
+    if d < window {
+        return false;
+    }
+    loop {
+        if d < p {
+            let k = q / p;
+            q -= k * p;
+            u += k * v;
+            if u + v >= count {
+                return true;
+            }
+            p -= q;
+            v += u;
+        } else {
+            d -= p;
+            if d < window {
+                return false;
+            }
+            let k = p / q;
+            p -= k * q;
+            v += k * u;
+            if u + v >= count {
+                return true;
+            }
+            q -= p;
+            u += v;
+        }
+    }
+}
+
+/// Nanoseconds a segment of a search into the memory given.
+fn nanoseconds<T>(search: impl Fn(u64, u64, u64, u64, u64, &mut T) -> u32, segments: &[Segment], mut memory: T) -> f64 {
+    let start = Instant::now();
+    for s in segments {
+        black_box(search(s.modulus, s.step, s.start, s.count, s.window, &mut memory));
+        black_box(&memory);
+    }
+    start.elapsed().as_secs_f64() * 1e9 / segments.len() as f64
+}
+
+/// What a search shows of a segment.
+fn shown<const N: usize>(search: fn(u64, u64, u64, u64, u64, &mut [u64; N]) -> u32, s: &Segment) -> [u64; N] {
+    let mut memory = [0; N];
+    search(s.modulus, s.step, s.start, s.count, s.window, &mut memory);
+    memory
+}
+
+/// Unverified code that answers otherwise would not be worth a comparison.
+fn check_answers(segments: &[Segment]) {
+    for s in segments {
+        assert_eq!(shown(|m, a, b, n, w, to| c_api::regular_search(m, a, b, n, w, to), s), shown(tuned::regular, s));
+        assert_eq!(shown(|m, a, b, n, w, to| c_api::fine_search(m, a, b, n, w, to), s), shown(tuned::fine, s));
+    }
+}
+
+fn median(times: impl Iterator<Item = f64>) -> f64 {
+    let mut times: Vec<f64> = times.collect();
+    times.sort_by(f64::total_cmp);
+    times[times.len() / 2]
+}
+
+fn random_lines() -> Vec<[u64; 3]> {
+    let mut state = 88_172_645_463_325_252u64;
+    let mut random = || {
+        state ^= state << 13;
+        state ^= state >> 7;
+        state ^= state << 17;
+        state
+    };
+    (0..SEGMENTS)
+        .map(|_| {
+            let modulus = (1 << 61) + random() % ((1 << 61) + 1);
+            [modulus, random() % modulus, random() % modulus]
+        })
+        .collect()
+}
+
+/// Times every search in each repetition, so that what disturbs the machine meets all of them; prints medians, of the times and
+/// of the ratios within a repetition.
+fn measure(power: u32, segments: &[Segment]) {
+    let times: Vec<[f64; 5]> = (0..REPETITIONS)
+        .map(|_| {
+            [
+                nanoseconds(|m, a, b, n, w, to| c_api::regular_search(m, a, b, n, w, to), segments, [0; 5]),
+                nanoseconds(tuned::regular, segments, [0; 5]),
+                nanoseconds(|m, a, b, n, w, to| c_api::fine_search(m, a, b, n, w, to), segments, [0; 6]),
+                nanoseconds(tuned::fine, segments, [0; 6]),
+                nanoseconds(lefevre, segments, false),
+            ]
+        })
+        .collect();
+    for (name, proved, unverified) in [("regular", 0, 1), ("fine", 2, 3)] {
+        for (against, other) in [("", unverified), (", Lefevre", 4)] {
+            let [proved_time, other_time] = [proved, other].map(|i| median(times.iter().map(|t| t[i])));
+            let ratio = median(times.iter().map(|t| t[proved] / t[other]));
+            println!("{name} N=2^{power}{against}\t{proved_time:.1}\t{other_time:.1}\t{ratio:.3}");
+        }
+    }
+}
+
+fn main() {
+    let lines = random_lines();
+    for power in [12, 15, 20] {
+        let segments: Vec<Segment> = lines
+            .iter()
+            .map(|&[modulus, step, start]| {
+                // A search that reaches 4 N points finds one of a thousand segments not clear.
+                Segment { modulus, step, start, count: 1 << power, window: modulus >> (power + 12) }
+            })
+            .collect();
+        check_answers(&segments);
+        measure(power, &segments);
+    }
+}

@@ -1,0 +1,47 @@
+-- The start lies in a gap of a two-length configuration, and the argument shown is the one at that gap's lower end: its residue is below the
+-- gap's length. Every other argument has a larger residue, as none lies between. Assumes nothing.
+use mathlib.Core.Path.{_≡_, ap}
+use mathlib.Core.Logic.{by-cases}
+use Prim.Native.Nat.{ℕ, _+_, _-_, _≤_, _<_}
+use native.Mathlib.Decide.{decLt, decLe}
+use native.Mathlib.Omega.{arith}
+use Rattle.segment.specs.Segment.{Segment, residue}
+use Rattle.segment.proofs.Residues.{turn, turn-lt, residue-low, residue-high}
+use Rattle.segment.proofs.TwoLength.{TwoLength, modulus-some, low-u, high-v}
+
+-- x is below the count, and the start in the gap above x: p long where x is below v, q long where not
+pub record Shown (s : Segment) (u v p q x : ℕ) : Type 0 where
+  pub below : x < u + v
+  pub left : x < v → residue s x < p
+  pub right : v ≤ x → residue s x < q
+
+module _ {s : Segment} {u v p q x : ℕ} (c : TwoLength (s .modulus) (s .step) u v p q) (d : Shown s u v p q x) where
+  -- x + z is not between x and the start
+  after : (z : ℕ) → 0 < z → x + z < u + v → residue s x < turn (s .modulus) (s .step) z
+  after z i j =
+      by-cases (decLt x v) (λ l. omega (arith, d .left l, c .low z i (omega arith)))
+      (λ l. omega (arith, d .right (omega arith), low-u c z i (omega arith)))
+
+  -- nor is x - z
+  before : (z : ℕ) → z ≤ x → residue s x + turn (s .modulus) (s .step) z < s .modulus
+  before z j =
+      by-cases (decLt x v) (λ l. omega (arith, d .left l, high-v c z (omega arith)))
+      (λ l. omega (arith, d .right (omega arith), c .high z (omega arith)))
+
+  -- every other argument below u + v has a larger residue
+  pub alone : (y : ℕ) → y < u + v → (y ≡ x → ⊥) → residue s x < residue s y
+  alone y j n = by-cases (decLt x y) larger smaller
+    where
+      larger : x < y → residue s x < residue s y
+      larger k =
+          let e : y ≡ x + (y - x) = omega arith in
+          let f = residue-high s x (y - x) (modulus-some c) (after (y - x) (omega arith) (omega arith)) in
+          omega (arith, ap (residue s) e, turn-lt (s .modulus) (s .step) (y - x) (modulus-some c))
+
+      smaller : (x < y → ⊥) → residue s x < residue s y
+      smaller k =
+          let e : x ≡ y + (x - y) = omega arith in
+          let f = ap (residue s) e in
+          by-cases (decLe (turn (s .modulus) (s .step) (x - y)) (residue s y))
+          (λ l. omega (arith, residue-low s y (x - y) (modulus-some c) l, c .low (x - y) (omega arith) (omega arith)))
+          (λ l. omega (arith, residue-high s y (x - y) (modulus-some c) (omega arith), before (x - y) (omega arith)))

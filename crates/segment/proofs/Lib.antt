@@ -1,0 +1,17 @@
+pub mod Quotients
+pub mod Refusals
+pub mod Residues
+pub mod TwoLength
+pub mod Least
+pub mod Standing
+pub mod Minimum
+pub mod Reaching
+pub mod Carrying
+pub mod Stood
+pub mod Walk
+pub mod Steps
+pub mod Answers
+pub mod Reached
+pub mod Periods
+pub mod Showing
+pub mod Promises

@@ -1,0 +1,45 @@
+-- `segment::refuse` meets its contract: each return is a case of the definition. Assumes nothing.
+use mathlib.Core.Path.{sym}
+use native.Mathlib.Omega.{arith}
+use Rattle.segment.proofs.Refusals.{modulus-low, modulus-high, step-high, start-high, count-low, count-high, window-high, none-fails}
+use Rattle.segment.proofs.refuse.Statement.{statement}
+use Rattle.segment.proofs.refuse.Tie as tie
+
+returns : tie.Need-returns
+returns c = sym (modulus-low _ (omega arith))
+
+returns-2 : tie.Need-returns-2
+returns-2 c = sym (modulus-high _ (omega arith) (omega arith))
+
+returns-3 : tie.Need-returns-3
+returns-3 c = sym (step-high _ (omega arith) (omega arith) (omega arith))
+
+returns-4 : tie.Need-returns-4
+returns-4 c = sym (start-high _ (omega arith) (omega arith) (omega arith) (omega arith))
+
+returns-5 : tie.Need-returns-5
+returns-5 c =
+    sym (count-low _ (omega arith) (omega arith) (omega arith) (omega arith) (omega arith))
+
+returns-6 : tie.Need-returns-6
+returns-6 c =
+    sym
+    (count-high _ (omega arith) (omega arith) (omega arith) (omega arith) (omega arith)
+    (omega arith))
+
+returns-7 : tie.Need-returns-7
+returns-7 c =
+    sym
+    (window-high _ (omega arith) (omega arith) (omega arith) (omega arith)
+    (omega arith) (omega arith) (omega arith))
+
+returns-8 : tie.Need-returns-8
+returns-8 c =
+    sym
+    (none-fails _ (omega arith) (omega arith) (omega arith) (omega arith)
+    (omega arith) (omega arith) (omega arith))
+
+pub refuse-spec : {M : Type 1} → statement M
+refuse-spec =
+    tie.close
+    (tie.spec returns returns-2 returns-3 returns-4 returns-5 returns-6 returns-7 returns-8)

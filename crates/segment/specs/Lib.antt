@@ -1,0 +1,5 @@
+pub mod Segment
+pub mod Search
+pub mod Answer
+pub mod State
+pub mod Promise

@@ -1,0 +1,88 @@
+//! What the test programs share: a seed, random numbers, the caller's memory with canaries around it, and the running of
+//! named tests.
+
+use std::fmt::Display;
+use std::process::exit;
+
+pub const SEED: u64 = 0x9E37_79B9_7F4A_7C15;
+
+/// Words of the caller, with canaries before and after the part that is lent.
+#[derive(PartialEq)]
+pub struct Lent {
+    words: Vec<u64>,
+    len: usize,
+}
+
+impl Lent {
+    const CANARIES: usize = 16;
+
+    pub fn new(len: usize, seed: u64) -> Self {
+        let words = (0..len + 2 * Self::CANARIES).map(|i| seed ^ (i as u64).wrapping_mul(SEED)).collect();
+        Lent { words, len }
+    }
+
+    pub fn part(&self) -> &[u64] {
+        &self.words[Self::CANARIES..Self::CANARIES + self.len]
+    }
+
+    /// The part, lent as an array of its length.
+    pub fn lend<const N: usize>(&mut self) -> &mut [u64; N] {
+        let part = &mut self.words[Self::CANARIES..Self::CANARIES + self.len];
+        part.try_into().unwrap()
+    }
+
+    /// Whether nothing outside the part differs from what it was made with.
+    pub fn canaries_live(&self, made: &Lent) -> bool {
+        let (front, back) = (Self::CANARIES, Self::CANARIES + self.len);
+        self.words[..front] == made.words[..front] && self.words[back..] == made.words[back..]
+    }
+}
+
+/// xorshift64*.
+pub struct Random(pub u64);
+
+impl Random {
+    pub fn next(&mut self) -> u64 {
+        self.0 ^= self.0 >> 12;
+        self.0 ^= self.0 << 25;
+        self.0 ^= self.0 >> 27;
+        self.0.wrapping_mul(0x2545_F491_4F6C_DD1D)
+    }
+
+    pub fn below(&mut self, n: u64) -> u64 {
+        (self.next() as u128 * n as u128 >> 64) as u64
+    }
+}
+
+/// A run of named tests, each with a line of its own.
+pub struct Run {
+    passed: usize,
+    failed: usize,
+}
+
+impl Run {
+    pub fn start() -> Self {
+        println!("seed {SEED:#x}");
+        Run { passed: 0, failed: 0 }
+    }
+
+    /// Counts a test: it passed with what it says it compared, or failed with the reason.
+    pub fn count(&mut self, name: &str, result: Result<impl Display, String>) {
+        match result {
+            Ok(compared) => {
+                self.passed += 1;
+                println!("ok: {name} ({compared})");
+            }
+            Err(why) => {
+                self.failed += 1;
+                println!("FAILED: {name}: {why}");
+            }
+        }
+    }
+
+    /// Ends the program with the line of counts, and with status 0 only if none failed.
+    pub fn end(self) -> ! {
+        println!("{} passed, {} failed", self.passed, self.failed);
+        exit(if self.failed == 0 { 0 } else { 1 });
+    }
+}

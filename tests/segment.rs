@@ -1,0 +1,577 @@
+//! Both searches of a segment against a reference written from document 01 alone, which goes through the arguments: every small
+//! modulus, random and extreme segments, refusals, the settled examples, with canaries around the caller's memory.
+
+mod c_api;
+mod harness;
+mod reference;
+
+use harness::{Lent, Random, Run, SEED};
+use reference::{Configuration, Row, Segment, LARGEST, MOST};
+use std::fmt;
+use Search::{Fine, Regular};
+
+/// The arguments that most tests go through at most, and those that a few go through.
+const THROUGH: u64 = 1 << 16;
+const FAR_THROUGH: u64 = 1 << 22;
+
+/// The arguments looked at from either end where there are too many to go through.
+const LOOK: u64 = 2000;
+
+/// Document 01's bound of a regular index.
+const HIGHEST: u64 = 29;
+
+#[derive(Clone, Copy, Debug)]
+enum Search {
+    Regular,
+    Fine,
+}
+
+impl Search {
+    fn reached(self, rows: &[Row], count: u64) -> Configuration {
+        match self {
+            Regular => reference::reached(reference::regular_configurations(rows), count),
+            Fine => reference::reached(reference::fine_configurations(rows), count),
+        }
+    }
+
+    fn memory(self) -> Lent {
+        match self {
+            Regular => Lent::new(5, 5),
+            Fine => Lent::new(6, 6),
+        }
+    }
+
+    fn call(self, s: &Segment, memory: &mut Lent) -> u32 {
+        match self {
+            Regular => c_api::regular_search(s.modulus, s.step, s.start, s.count, s.window, memory.lend()),
+            Fine => c_api::fine_search(s.modulus, s.step, s.start, s.count, s.window, memory.lend()),
+        }
+    }
+
+    /// What the search has to show.
+    fn words(self, reached: &Configuration, (distance, argument): (u64, u64), window: u64) -> Vec<u64> {
+        let (count, clear) = (reached.count as u64, (distance >= window) as u64);
+        match self {
+            Regular => vec![count, reached.index, distance, argument, clear],
+            Fine => vec![count, reached.index, reached.part, distance, argument, clear],
+        }
+    }
+
+    fn wrong<T>(self, segment: &Segment, what: &str) -> Result<T, String> {
+        Err(format!("{self:?}, {segment:?}: {what}"))
+    }
+}
+
+/// The words that a search shows, or none if it refuses; by the reference it has to.
+fn shown(search: Search, segment: &Segment) -> Result<Option<Vec<u64>>, String> {
+    let (made, mut lent) = (search.memory(), search.memory());
+    let number = search.call(segment, &mut lent);
+    if number != segment.refusal() {
+        return search.wrong(segment, &format!("refusal {number}"));
+    }
+    if !lent.canaries_live(&made) {
+        return search.wrong(segment, "written outside the caller's memory");
+    }
+    if number != 0 {
+        return if lent == made { Ok(None) } else { search.wrong(segment, "memory changed on a refusal") };
+    }
+    Ok(Some(lent.part().to_vec()))
+}
+
+/// The distance, its argument and whether the verdict is clear, of an accepted segment.
+fn found(search: Search, segment: &Segment) -> Result<(u64, u64, bool), String> {
+    let words = shown(search, segment)?.unwrap();
+    let [.., distance, argument, clear] = words[..] else { unreachable!() };
+    Ok((distance, argument, clear == 1))
+}
+
+/// How many segments were accepted, how many of those were compared in full (the arguments below both counts reached were gone
+/// through), how many were refused, and the highest index reached.
+#[derive(Default)]
+struct Tally {
+    accepted: usize,
+    full: usize,
+    refused: usize,
+    highest: u64,
+}
+
+impl Tally {
+    fn add(&mut self, other: &Tally) {
+        self.accepted += other.accepted;
+        self.full += other.full;
+        self.refused += other.refused;
+        self.highest = self.highest.max(other.highest);
+    }
+}
+
+impl fmt::Display for Tally {
+    fn fmt(&self, f: &mut fmt::Formatter) -> fmt::Result {
+        write!(f, "{} segments, {} of them in full", self.accepted, self.full)?;
+        if self.refused != 0 {
+            write!(f, "; {} refused", self.refused)?;
+        }
+        Ok(())
+    }
+}
+
+/// Where the arguments are too many to go through: the distance and argument that the search itself shows, if they pass whatever
+/// can be told without that.
+fn judged(search: Search, segment: &Segment, rows: &[Row], n: u64) -> Result<(u64, u64), String> {
+    let (distance, argument, _) = found(search, &Segment { window: 0, ..*segment })?;
+    if argument >= n || segment.residue(argument) != distance {
+        return search.wrong(segment, "no such argument");
+    }
+    // A nearer point is to be looked for at the ends, and beside the argument shown: a denominator away, or what is left of n.
+    let apart = rows.iter().map(|row| row.denominator as u64).filter(|&q| q < n).flat_map(|q| [q, n - q]);
+    let beside = apart.flat_map(|by| [argument.checked_sub(by), argument.checked_add(by)]).flatten();
+    let ends = (0..LOOK.min(n)).chain(n.saturating_sub(LOOK)..n);
+    let smaller = |x| x != argument && x < n && segment.residue(x) <= distance;
+    if let Some(x) = beside.chain(ends).find(|&x| smaller(x)) {
+        return search.wrong(segment, &format!("the residue at {x} is not above distance {distance}"));
+    }
+    // A whole period has every residue that differs from the start by a multiple of gcd(a, M), which is M / P.
+    let period = rows.last().unwrap().denominator as u64;
+    if n == period && distance != segment.start % (segment.modulus / period) {
+        return search.wrong(segment, "not the least residue of the period");
+    }
+    Ok((distance, argument))
+}
+
+/// Compares both searches with the reference at the segment's window and at those where a verdict changes; goes through at most
+/// so many arguments.
+fn compare(segment: &Segment, through: u64, tally: &mut Tally) -> Result<(), String> {
+    if segment.refusal() != 0 {
+        tally.refused += 1;
+        return shown(Regular, segment).and(shown(Fine, segment)).map(drop);
+    }
+    let rows = reference::rows(segment.modulus, segment.step);
+    let [regular, fine] = [Regular, Fine].map(|search| search.reached(&rows, segment.count));
+    if regular.index > HIGHEST || fine.count > regular.count {
+        return Regular.wrong(segment, "index above 29, or fewer points than the fine search");
+    }
+    let [r, f] = [regular, fine].map(|reached| reached.count as u64);
+    let fine_least = if f <= through { segment.least(0..f) } else { judged(Fine, segment, &rows, f)? };
+    let regular_least = match r {
+        _ if r > through => judged(Regular, segment, &rows, r)?,
+        _ if r > f => fine_least.min(segment.least(f..r)),
+        _ => fine_least,
+    };
+    let (near, far) = (regular_least.0, fine_least.0);
+    let mut windows = [segment.window, 0, segment.modulus, near, near + 1, far, far + 1];
+    windows.sort();
+    for window in windows.chunk_by(|a, b| a == b).map(|equal| equal[0]) {
+        let segment = Segment { window, ..*segment };
+        for (search, reached, least) in [(Regular, &regular, regular_least), (Fine, &fine, fine_least)] {
+            let (has, wanted) = (shown(search, &segment)?.unwrap(), search.words(reached, least, window));
+            if has != wanted {
+                return search.wrong(&segment, &format!("{has:?} for {wanted:?}"));
+            }
+        }
+        tally.accepted += 1;
+        tally.full += (r <= through) as usize;
+    }
+    tally.highest = tally.highest.max(regular.index);
+    Ok(())
+}
+
+fn all(through: u64, segments: impl IntoIterator<Item = Segment>) -> Result<Tally, String> {
+    let mut tally = Tally::default();
+    for segment in segments {
+        compare(&segment, through, &mut tally)?;
+    }
+    Ok(tally)
+}
+
+/// Compares so many random segments, made of their own seed.
+fn random_segments(own: u64, times: usize, make: impl Fn(&mut Random, usize) -> Segment) -> Result<Tally, String> {
+    let mut random = Random(SEED + own);
+    all(THROUGH, (0..times).map(|i| make(&mut random, i)))
+}
+
+/// A number from 1 to the given one, of any size as likely as of another.
+fn sized(random: &mut Random, most: u64) -> u64 {
+    let number = 1 + random.below(most);
+    (number >> random.below(most.ilog2() as u64 + 1)).max(1)
+}
+
+fn segment([modulus, step, start, count, window]: [u64; 5]) -> Segment {
+    Segment { modulus, step, start, count, window }
+}
+
+/// A random start and window beside what is given.
+fn somewhere(random: &mut Random, modulus: u64, step: u64, count: u64) -> Segment {
+    let (start, window) = (random.below(modulus), random.below(modulus / count + 1));
+    Segment { modulus, step, start, count, window }
+}
+
+/// A modulus and a step with random quotients, one in four of them large, and a common divisor.
+fn by_quotients(random: &mut Random) -> (u64, u64) {
+    let divisor = sized(random, 1 << 32) as u128;
+    let (mut modulus, mut step) = (divisor * (2 + random.below(9) as u128), divisor);
+    for _ in 0..random.below(60) {
+        let quotient = if random.below(4) == 0 { sized(random, 1 << 24) } else { 1 + random.below(3) } as u128;
+        if modulus * quotient + step > LARGEST as u128 {
+            break;
+        }
+        (modulus, step) = (modulus * quotient + step, modulus);
+    }
+    (modulus as u64, step as u64)
+}
+
+fn every_small_segment() -> Result<Tally, String> {
+    let segments = |modulus| {
+        (0..modulus).flat_map(move |step| {
+            (0..modulus).flat_map(move |start| {
+                (1..modulus + 3).map(move |count| {
+                    let window = (step + start + count) % (modulus + 1);
+                    Segment { modulus, step, start, count, window }
+                })
+            })
+        })
+    };
+    all(THROUGH, (2..=24).flat_map(segments))
+}
+
+fn random_moduli_of_every_size() -> Result<Tally, String> {
+    random_segments(0, 20_000, |random, _| {
+        let modulus = 1 + sized(random, LARGEST - 1);
+        let (step, count) = (random.below(modulus), sized(random, 4096));
+        somewhere(random, modulus, step, count)
+    })
+}
+
+fn random_large_moduli() -> Result<Tally, String> {
+    random_segments(1, 6_000, |random, _| {
+        let modulus = LARGEST - random.below(LARGEST / 2 + 1);
+        let (step, count) = (random.below(modulus), 1 + random.below(4096));
+        somewhere(random, modulus, step, count)
+    })
+}
+
+fn common_divisors_and_powers_of_two() -> Result<Tally, String> {
+    random_segments(2, 8_000, |random, i| {
+        let divisor = if i % 2 == 0 { 1 << random.below(60) } else { 1 + random.below(1 << 30) };
+        let times = if i % 4 < 2 {
+            2 << random.below((LARGEST / divisor).ilog2() as u64)
+        } else {
+            2 + random.below(LARGEST / divisor - 1)
+        };
+        let (step, count) = (divisor * random.below(times), sized(random, 4096));
+        somewhere(random, divisor * times, step, count)
+    })
+}
+
+fn counts_about_the_period() -> Result<Tally, String> {
+    random_segments(3, 10_000, |random, i| {
+        let period = 2 + random.below(2000);
+        let divisor = sized(random, LARGEST / period);
+        let count = [period - 1, period, period + 1, 2 * period, sized(random, MOST), MOST][i % 6];
+        let step = divisor * random.below(period);
+        somewhere(random, divisor * period, step, count)
+    })
+}
+
+fn extreme_steps() -> Result<Tally, String> {
+    let mut random = Random(SEED + 4);
+    let mut moduli = vec![2, 3, 4, 5, 6, 45, 1 << 10, MOST - 1, MOST, MOST + 1, u32::MAX as u64, 1 << 32, 1 << 61];
+    moduli.extend([LARGEST - 57, LARGEST - 1, LARGEST]);
+    moduli.extend((0..8).map(|_| 1 + sized(&mut random, LARGEST - 1)));
+    let mut segments = Vec::new();
+    for m in moduli {
+        let mut steps = vec![0, 1, 2, 3, m / 3, m / 2 - 1, m / 2, m / 2 + 1, m - 2, m - 1];
+        steps.retain(|&step| step < m);
+        for step in steps {
+            for count in [1, 2, 3, 100, 5000, MOST] {
+                let starts = [0, 1, m / 2, m - 1, random.below(m)];
+                // The reference is slow at the largest count.
+                let starts = if count == MOST { &starts[3..] } else { &starts };
+                segments.extend(starts.iter().map(|&start| Segment { modulus: m, step, start, count, window: m / 2 }));
+            }
+        }
+    }
+    all(THROUGH, segments)
+}
+
+fn random_quotients() -> Result<Tally, String> {
+    random_segments(5, 12_000, |random, i| {
+        let (modulus, step) = by_quotients(random);
+        let count = sized(random, if i % 64 == 0 { MOST } else { 1 << 13 });
+        somewhere(random, modulus, step, count)
+    })
+}
+
+/// Counts that a configuration has, and those beside them.
+fn counts_of_configurations() -> Result<Tally, String> {
+    random_segments(6, 9_000, |random, i| {
+        let (modulus, step) = by_quotients(random);
+        let rows = reference::rows(modulus, step);
+        let low = |configuration: &Configuration| configuration.count < 1 << 13;
+        let listed: Vec<_> = if i % 2 == 0 {
+            reference::regular_configurations(&rows).take_while(low).collect()
+        } else {
+            reference::fine_configurations(&rows).take_while(low).collect()
+        };
+        let count = listed[random.below(listed.len() as u64) as usize].count as u64;
+        let count = [count.max(2) - 1, count, count + 1][i % 3];
+        somewhere(random, modulus, step, count)
+    })
+}
+
+/// Starts that a point has, and those beside them: residues 0 and 1, and the largest.
+fn starts_at_points() -> Result<Tally, String> {
+    random_segments(7, 9_000, |random, i| {
+        let (modulus, step) = by_quotients(random);
+        let (count, x) = (sized(random, 4096), sized(random, 1 << 14) - 1);
+        let point = (step as u128 * x as u128 % modulus as u128) as u64;
+        let start = [point, (point + 1) % modulus, (point + modulus - 1) % modulus][i % 3];
+        Segment { start, ..somewhere(random, modulus, step, count) }
+    })
+}
+
+/// Neighbouring Fibonacci numbers, and steps near the golden section of a modulus.
+fn golden_pairs() -> Vec<(u64, u64)> {
+    let (mut pairs, mut a, mut b) = (Vec::new(), 1u64, 2u64);
+    while b <= LARGEST {
+        pairs.push((b, a));
+        (a, b) = (b, a + b);
+    }
+    let golden = |modulus: u64| (modulus as u128 * a as u128 / b as u128) as u64;
+    pairs.extend([1 << 40, 1 << 61, LARGEST - 1, LARGEST].map(|modulus| (modulus, golden(modulus))));
+    pairs
+}
+
+/// Golden steps have the longest searches: some reach the highest index.
+fn golden_steps() -> Result<Tally, String> {
+    let mut random = Random(SEED + 8);
+    let (mut segments, mut long) = (Vec::new(), Vec::new());
+    for (i, (modulus, step)) in golden_pairs().into_iter().enumerate() {
+        for count in [1, 2, 3, 4, 5, 6, 89, 90, 10_946, 832_040, 832_041, MOST] {
+            segments.extend([step, modulus - step].map(|step| somewhere(&mut random, modulus, step, count)));
+        }
+        if i % 12 == 11 {
+            long.push(somewhere(&mut random, modulus, step, MOST));
+        }
+    }
+    let mut tally = all(THROUGH, segments)?;
+    tally.add(&all(FAR_THROUGH, long)?);
+    match tally.highest {
+        HIGHEST => Ok(tally),
+        highest => Err(format!("the highest index reached is {highest}")),
+    }
+}
+
+fn largest_count() -> Result<Tally, String> {
+    let mut random = Random(SEED + 9);
+    all(
+        FAR_THROUGH,
+        (0..36).map(|_| {
+            let modulus = LARGEST - random.below(LARGEST / 2 + 1);
+            let step = random.below(modulus);
+            somewhere(&mut random, modulus, step, MOST)
+        }),
+    )
+}
+
+/// Every set of conditions in conflict with each other: the lowest number wins.
+fn every_set_of_refusals() -> Result<Tally, String> {
+    let mut segments = Vec::new();
+    for modulus in [0, 1, 2, 45, LARGEST, LARGEST + 1, 1 << 63, u64::MAX - 1] {
+        let fields = [0, 1, modulus.wrapping_sub(1), modulus, modulus + 1, u64::MAX];
+        for (step, start) in fields.iter().flat_map(|&step| fields.map(|start| (step, start))) {
+            for (count, window) in [0, 1, 7, MOST + 1, u64::MAX].iter().flat_map(|&n| fields.map(|w| (n, w))) {
+                segments.push(Segment { modulus, step, start, count, window });
+            }
+        }
+    }
+    let sets: std::collections::HashSet<_> = segments.iter().map(Segment::conflicts).collect();
+    if sets.len() != 32 {
+        return Err(format!("only {} of the 32 sets", sets.len()));
+    }
+    all(THROUGH, segments)
+}
+
+fn extreme_fields() -> Result<Tally, String> {
+    let ends = [0, 1, 2, LARGEST, LARGEST + 1, 1 << 63, u64::MAX];
+    let counts = [0, 1, 2, MOST, MOST + 1, LARGEST, LARGEST + 1, 1 << 63, u64::MAX];
+    let mut segments = Vec::new();
+    for (modulus, step) in ends.iter().flat_map(|&m| ends.map(|a| (m, a))) {
+        for (start, window) in ends.iter().flat_map(|&b| ends.map(|w| (b, w))) {
+            segments.extend(counts.map(|count| Segment { modulus, step, start, count, window }));
+        }
+    }
+    all(THROUGH, segments)
+}
+
+fn random_fields_of_every_size() -> Result<Tally, String> {
+    let mut random = Random(SEED + 10);
+    let mut field = || random.next() >> random.below(64);
+    all(
+        THROUGH,
+        (0..100_000).map(|_| Segment {
+            modulus: field(),
+            step: field(),
+            start: field(),
+            count: field() >> 40,
+            window: field(),
+        }),
+    )
+}
+
+/// Where a search is clear, no argument below the count has a residue under the window: by going through them.
+fn clear_is_right() -> Result<String, String> {
+    let (mut random, mut clear) = (Random(SEED + 11), 0);
+    for i in 0..4_000 {
+        let (modulus, step) = by_quotients(&mut random);
+        let count = sized(&mut random, 4096);
+        let segment = somewhere(&mut random, modulus, step, count);
+        let (least, _) = segment.least(0..count);
+        let window = [least, least + 1, segment.window][i % 3];
+        for search in [Regular, Fine] {
+            if found(search, &Segment { window, ..segment })?.2 {
+                clear += 1;
+                if least < window {
+                    return search.wrong(&segment, &format!("clear at window {window}, with a residue {least}"));
+                }
+            }
+        }
+    }
+    Ok(format!("8000 searches, {clear} of them clear"))
+}
+
+/// A segment with a smaller count or window is cleared by the same search and by the fine one.
+fn smaller_stays_clear() -> Result<String, String> {
+    let (mut random, mut smaller) = (Random(SEED + 12), 0);
+    for _ in 0..20_000 {
+        let (modulus, step) = by_quotients(&mut random);
+        let count = sized(&mut random, MOST);
+        let segment = somewhere(&mut random, modulus, step, count);
+        for search in [Regular, Fine] {
+            let (window, ..) = found(search, &segment)?;
+            let less = Segment { count: 1 + random.below(count), window: random.below(window + 1), ..segment };
+            for segment in [Segment { window, ..segment }, Segment { window, ..less }, less] {
+                smaller += 1;
+                if !found(search, &segment)?.2 || !found(Fine, &segment)?.2 {
+                    return search.wrong(&segment, "not clear, where a larger one is");
+                }
+            }
+        }
+    }
+    Ok(format!("{smaller} segments"))
+}
+
+/// What 01 says of the lists, of the reference's: they ascend, both end with the period, the regular counts are among the fine.
+fn lists_of_the_reference() -> Result<String, String> {
+    let mut lists = 0;
+    for (modulus, step) in (2..=200).flat_map(|m| (0..m).map(move |a| (m, a))) {
+        let rows = reference::rows(modulus, step);
+        let regular: Vec<_> = reference::regular_configurations(&rows).map(|c| c.count).collect();
+        let fine: Vec<_> = reference::fine_configurations(&rows).map(|c| c.count).collect();
+        let period = Some(reference::period(modulus, step) as u128);
+        let ends =
+            [&regular, &fine].iter().all(|list| list.is_sorted_by(|a, b| a < b) && list.last().copied() == period);
+        if !ends || !regular.iter().all(|count| fine.contains(count)) {
+            return Err(format!("modulus {modulus}, step {step}: {regular:?}, {fine:?}"));
+        }
+        lists += 2;
+    }
+    Ok(format!("{lists} lists"))
+}
+
+/// The table of 14/45 in 000, with its values by 01's definitions: at every count and start.
+fn table_of_000() -> Result<Tally, String> {
+    let rows = reference::rows(45, 14);
+    let regular: Vec<_> = reference::regular_configurations(&rows).map(|c| (c.count, c.index)).collect();
+    let fine: Vec<_> = reference::fine_configurations(&rows).map(|c| (c.count, c.index, c.part)).collect();
+    if regular != [(1, 0), (4, 1), (16, 2), (29, 3), (45, 4)] {
+        return Err(format!("regular {regular:?}"));
+    }
+    let rows_0_and_1 = vec![(1, 0, 0), (2, 0, 1), (3, 0, 2), (4, 1, 0), (7, 1, 1), (10, 1, 2), (13, 1, 3)];
+    let rows_2_and_3 = vec![(16, 2, 0), (29, 3, 0), (45, 3, 1)];
+    if fine != [rows_0_and_1, rows_2_and_3].concat() {
+        return Err(format!("fine {fine:?}"));
+    }
+    let starts = |count| (0..45).map(move |start| Segment { modulus: 45, step: 14, start, count, window: 1 });
+    all(THROUGH, (1..=60).flat_map(starts))
+}
+
+/// Document 01's examples P2 to P8: modulus, step, start, count, window; the words shown, as far as 01 tells them.
+fn settled_examples() -> Result<Tally, String> {
+    let any = None;
+    let examples: [(&str, Search, [u64; 5], &[Option<u64>]); 13] = [
+        ("P2", Regular, [45, 14, 44, 16, 1], &[16, 2, 2, 3, 1].map(Some)),
+        ("P3", Regular, [45, 14, 44, 17, 1], &[29, 3, 0, 16, 0].map(Some)),
+        ("P4", Regular, [45, 14, 8, 5, 1], &[Some(16), any, Some(0), Some(7), Some(0)]),
+        ("P4", Fine, [45, 14, 8, 5, 1], &[7, 1, 1, 8, 0, 1].map(Some)),
+        ("P5", Regular, [45, 0, 9, 1_048_576, 9], &[1, 0, 9, 0, 1].map(Some)),
+        ("P5", Regular, [45, 0, 9, 1_048_576, 10], &[1, 0, 9, 0, 0].map(Some)),
+        ("P5", Fine, [45, 0, 9, 1_048_576, 9], &[1, 0, 0, 9, 0, 1].map(Some)),
+        ("P5", Fine, [45, 0, 9, 1_048_576, 10], &[1, 0, 0, 9, 0, 0].map(Some)),
+        ("P6", Fine, [45, 15, 44, 10, 1], &[Some(3), Some(0), Some(2), Some(14), Some(2), any]),
+        ("P7", Regular, [45, 44, 0, 3, 1], &[Some(45), Some(2), any, any, any]),
+        ("P7", Fine, [45, 44, 0, 3, 1], &[Some(3), Some(1), Some(1), any, any, any]),
+        ("P8", Regular, [45, 14, 44, 1, 1], &[Some(1), any, Some(44), any, any]),
+        ("P8", Fine, [45, 14, 44, 1, 1], &[Some(1), any, any, Some(44), any, any]),
+    ];
+    for (name, search, fields, told) in examples {
+        let words = shown(search, &segment(fields))?.ok_or(name)?;
+        if words.len() != told.len() || words.iter().zip(told).any(|(word, told)| told.is_some_and(|t| t != *word)) {
+            return search.wrong(&segment(fields), &format!("{name}: {words:?}"));
+        }
+    }
+    all(THROUGH, examples.map(|example| segment(example.2)))
+}
+
+/// Document 01's examples without a mark that concern segments.
+fn settled_refusals() -> Result<Tally, String> {
+    let refusals = [
+        ([1, 0, 0, 1, 0], 1),
+        ([2, 0, 0, 1, 0], 0),
+        ([45, 14, 44, 0, 1], 4),
+        ([45, 14, 44, 1_048_577, 1], 4),
+        ([45, 14, 44, 16, 45], 0),
+        ([45, 14, 44, 16, 46], 5),
+    ];
+    for (fields, number) in refusals {
+        for search in [Regular, Fine] {
+            if search.call(&segment(fields), &mut search.memory()) != number {
+                return search.wrong(&segment(fields), &format!("not {number}"));
+            }
+        }
+    }
+    all(THROUGH, refusals.map(|refusal| segment(refusal.0)))
+}
+
+fn main() {
+    let mut run = Run::start();
+    let tests: [(&str, fn() -> Result<Tally, String>); 17] = [
+        ("every modulus up to 24", every_small_segment),
+        ("random moduli of every size", random_moduli_of_every_size),
+        ("random moduli from 2^61 to 2^62", random_large_moduli),
+        ("common divisors and powers of two", common_divisors_and_powers_of_two),
+        ("counts about the period", counts_about_the_period),
+        ("extreme steps", extreme_steps),
+        ("random quotients, some large", random_quotients),
+        ("counts of configurations", counts_of_configurations),
+        ("starts at points", starts_at_points),
+        ("golden steps, to index 29", golden_steps),
+        ("count 2^20", largest_count),
+        ("every set of refusals", every_set_of_refusals),
+        ("extreme fields", extreme_fields),
+        ("random fields of every size", random_fields_of_every_size),
+        ("table of 14/45", table_of_000),
+        ("settled examples", settled_examples),
+        ("settled refusals", settled_refusals),
+    ];
+    let mut sum = Tally::default();
+    for (name, test) in tests {
+        let result = test();
+        sum.add(result.as_ref().unwrap_or(&Tally::default()));
+        run.count(name, result);
+    }
+    run.count("clear is right", clear_is_right());
+    run.count("smaller stays clear", smaller_stays_clear());
+    run.count("lists of the reference", lists_of_the_reference());
+    let enough = sum.accepted >= 200_000 && sum.full >= 100_000;
+    run.count("as many as meant", if enough { Ok(sum) } else { Err(format!("only {sum}")) });
+    run.end()
+}
