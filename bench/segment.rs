@@ -1,12 +1,16 @@
-//! Both searches of random segments with a modulus from 2^61 to 2^62: the proved calls, the same searches in unverified Rust, and
-//! Lefèvre's published search. The windows leave about one segment in a thousand not clear.
+//! Both searches of random segments with a modulus from 2^61 to 2^62: the proved calls against unverified Rust. First the same
+//! code; then what can be had by arranging it for the processor, with hints that no branch is meant; then that with reciprocals in
+//! place of the division instruction, in whole and in floating-point numbers; last Lefèvre's published search. The windows leave
+//! about one segment in a thousand not clear.
 
 #[path = "../tests/c_api.rs"]
 mod c_api;
+mod same;
 mod tuned;
 
 use std::hint::black_box;
 use std::time::Instant;
+use tuned::{Float, Instruction, Whole};
 
 const SEGMENTS: usize = 4096;
 const REPETITIONS: usize = 201;
@@ -85,8 +89,16 @@ fn shown<const N: usize>(search: fn(u64, u64, u64, u64, u64, &mut [u64; N]) -> u
 /// Unverified code that answers otherwise would not be worth a comparison.
 fn check_answers(segments: &[Segment]) {
     for s in segments {
-        assert_eq!(shown(|m, a, b, n, w, to| c_api::regular_search(m, a, b, n, w, to), s), shown(tuned::regular, s));
-        assert_eq!(shown(|m, a, b, n, w, to| c_api::fine_search(m, a, b, n, w, to), s), shown(tuned::fine, s));
+        let regular = shown(|m, a, b, n, w, to| c_api::regular_search(m, a, b, n, w, to), s);
+        assert_eq!(regular, shown(same::regular, s));
+        assert_eq!(regular, shown(tuned::regular::<Instruction>, s));
+        assert_eq!(regular, shown(tuned::regular::<Whole>, s));
+        assert_eq!(regular, shown(tuned::regular::<Float>, s));
+        let fine = shown(|m, a, b, n, w, to| c_api::fine_search(m, a, b, n, w, to), s);
+        assert_eq!(fine, shown(same::fine, s));
+        assert_eq!(fine, shown(tuned::fine::<Instruction>, s));
+        assert_eq!(fine, shown(tuned::fine::<Whole>, s));
+        assert_eq!(fine, shown(tuned::fine::<Float>, s));
     }
 }
 
@@ -115,19 +127,32 @@ fn random_lines() -> Vec<[u64; 3]> {
 /// Times every search in each repetition, so that what disturbs the machine meets all of them; prints medians, of the times and
 /// of the ratios within a repetition.
 fn measure(power: u32, segments: &[Segment]) {
-    let times: Vec<[f64; 5]> = (0..REPETITIONS)
+    let times: Vec<[f64; 11]> = (0..REPETITIONS)
         .map(|_| {
             [
                 nanoseconds(|m, a, b, n, w, to| c_api::regular_search(m, a, b, n, w, to), segments, [0; 5]),
-                nanoseconds(tuned::regular, segments, [0; 5]),
+                nanoseconds(same::regular, segments, [0; 5]),
+                nanoseconds(tuned::regular::<Instruction>, segments, [0; 5]),
+                nanoseconds(tuned::regular::<Whole>, segments, [0; 5]),
+                nanoseconds(tuned::regular::<Float>, segments, [0; 5]),
                 nanoseconds(|m, a, b, n, w, to| c_api::fine_search(m, a, b, n, w, to), segments, [0; 6]),
-                nanoseconds(tuned::fine, segments, [0; 6]),
+                nanoseconds(same::fine, segments, [0; 6]),
+                nanoseconds(tuned::fine::<Instruction>, segments, [0; 6]),
+                nanoseconds(tuned::fine::<Whole>, segments, [0; 6]),
+                nanoseconds(tuned::fine::<Float>, segments, [0; 6]),
                 nanoseconds(lefevre, segments, false),
             ]
         })
         .collect();
-    for (name, proved, unverified) in [("regular", 0, 1), ("fine", 2, 3)] {
-        for (against, other) in [("", unverified), (", Lefevre", 4)] {
+    for (name, proved) in [("regular", 0), ("fine", 5)] {
+        let others = [
+            ("", proved + 1),
+            (", arranged by hand", proved + 2),
+            (", whole-number reciprocals", proved + 3),
+            (", floating-point reciprocals", proved + 4),
+            (", Lefevre", 10),
+        ];
+        for (against, other) in others {
             let [proved_time, other_time] = [proved, other].map(|i| median(times.iter().map(|t| t[i])));
             let ratio = median(times.iter().map(|t| t[proved] / t[other]));
             println!("{name} N=2^{power}{against}\t{proved_time:.1}\t{other_time:.1}\t{ratio:.3}");

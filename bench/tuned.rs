@@ -2,13 +2,14 @@
 //! refusals and answers as the proved calls.
 //!
 //! Two rows a turn, so that none asks whether it is even. The only branch in a row that is hard to foresee is on the size of its
-//! quotient: below 8, as five in six are, it is found by three selects; else both divisions of the row, which have the same
-//! divisor, share one reciprocal.
+//! quotient: below 8, as five in six are, it is found by three selects. Each search comes in three versions, by what it does with
+//! larger quotients: the division instruction, as the proved code; one reciprocal for both divisions of a row, which have the same
+//! divisor, in whole numbers; the same in floating-point numbers.
 
 use std::hint::select_unpredictable as select;
 
 /// A divisor, made ready to divide the lengths of a row.
-trait Divisor: Copy {
+pub trait Divisor: Copy {
     fn new(divisor: u64) -> Self;
 
     /// Quotient and remainder.
@@ -38,32 +39,79 @@ impl<const BITS: u32> Divisor for Selects<BITS> {
     }
 }
 
-/// For quotients below 2^40 of numbers up to 2^62.
-#[derive(Clone, Copy)]
-struct Reciprocal(u64, f64);
+/// What a search does with the quotients from 8 up. A reciprocal, by which numbers up to 2^62 are multiplied, is a little too small:
+/// a quotient is found right or one too small.
+pub trait Large: Divisor {
+    /// For quotients below 2^BITS.
+    const BITS: u32;
+}
 
-impl Divisor for Reciprocal {
+/// Quotient and remainder, from a quotient that is right or one too small.
+#[inline(always)]
+fn correct(number: u64, divisor: u64, quotient: u64) -> (u64, u64) {
+    let rest = number.wrapping_sub(quotient.wrapping_mul(divisor));
+    let less = rest.wrapping_sub(divisor);
+    let under = (less as i64) < 0;
+    (quotient + !under as u64, select(under, rest, less))
+}
+
+/// The reciprocal of the divisor's first 16 bits in whole numbers, by a division of 32 bits, which is faster than one of 64.
+#[derive(Clone, Copy)]
+pub struct Whole {
+    divisor: u64,
+    shift: u32,
+    reciprocal: u32,
+}
+
+impl Divisor for Whole {
     #[inline(always)]
     fn new(divisor: u64) -> Self {
-        // A little less than the reciprocal: a quotient is found right or one too small.
+        let shift = 48 - (divisor | 1 << 15).leading_zeros();
+        // Rounded up: the divisor itself or above 2^15, so that quotients below 2^14 come out less than 1 too small.
+        let first = ((divisor - 1) >> shift) as u32 + 1;
+        Whole { divisor, shift, reciprocal: u32::MAX / first }
+    }
+
+    #[inline(always)]
+    fn divide(self, number: u64) -> (u64, u64) {
+        let quotient = (number >> self.shift).wrapping_mul(self.reciprocal as u64) >> 32;
+        correct(number, self.divisor, quotient)
+    }
+}
+
+impl Large for Whole {
+    const BITS: u32 = 14;
+}
+
+/// The reciprocal as a floating-point number.
+#[derive(Clone, Copy)]
+pub struct Float {
+    divisor: u64,
+    reciprocal: f64,
+}
+
+impl Divisor for Float {
+    #[inline(always)]
+    fn new(divisor: u64) -> Self {
         const LESS: f64 = 1.0 - 1.0 / (1u64 << 50) as f64;
-        Reciprocal(divisor, LESS / divisor as i64 as f64)
+        Float { divisor, reciprocal: LESS / divisor as i64 as f64 }
     }
 
     #[inline(always)]
     fn divide(self, number: u64) -> (u64, u64) {
         // The product is from 0 to 2^40.
-        let quotient = unsafe { (number as i64 as f64 * self.1).to_int_unchecked::<i64>() } as u64;
-        let rest = number.wrapping_sub(quotient.wrapping_mul(self.0));
-        let less = rest.wrapping_sub(self.0);
-        let under = (less as i64) < 0;
-        (quotient + !under as u64, select(under, rest, less))
+        let quotient = unsafe { (number as i64 as f64 * self.reciprocal).to_int_unchecked::<i64>() } as u64;
+        correct(number, self.divisor, quotient)
     }
 }
 
-/// For all others.
+impl Large for Float {
+    const BITS: u32 = 40;
+}
+
+/// The division instruction: for all other quotients, or for all from 8 up.
 #[derive(Clone, Copy)]
-struct Instruction(u64);
+pub struct Instruction(u64);
 
 impl Divisor for Instruction {
     #[inline(always)]
@@ -74,6 +122,49 @@ impl Divisor for Instruction {
     #[inline(always)]
     fn divide(self, number: u64) -> (u64, u64) {
         (number / self.0, number % self.0)
+    }
+}
+
+impl Large for Instruction {
+    const BITS: u32 = 63;
+}
+
+/// The divisions of a row: how often the long gaps can be cut and what that leaves of them; how many cuts are passed on the way
+/// from the end where they begin to the start, and what is left of the way.
+struct Row {
+    cuts: u64,
+    rest: u64,
+    passed: u64,
+    left: u64,
+}
+
+impl Row {
+    #[inline(always)]
+    fn new<D: Divisor>(long: u64, way: u64, short: u64) -> Self {
+        let by = D::new(short);
+        let (cuts, rest) = by.divide(long);
+        let (passed, left) = by.divide(way);
+        Row { cuts, rest, passed, left }
+    }
+
+    /// Of a search's last row, how many cuts it makes: as many as leave something of a long gap, and in a fine search no more than
+    /// the count needs.
+    #[inline(always)]
+    fn part<const FINE: bool>(&self, longs: u64, shorts: u64, count: u64) -> u64 {
+        let all = self.cuts - (self.rest == 0) as u64;
+        if FINE {
+            // Less than 2^20 both.
+            all.min(((count - shorts - 1) as u32 / longs as u32) as u64)
+        } else {
+            all
+        }
+    }
+
+    /// The label after so many of the cuts; a regular search's has only the index, of the next row.
+    #[inline(always)]
+    fn label<const FINE: bool>(&self, index: u64, part: u64) -> (u64, u64) {
+        let whole = !FINE || part == self.cuts;
+        (index + whole as u64, select(whole, 0, part))
     }
 }
 
@@ -90,13 +181,13 @@ struct Gaps {
 
 /// Calls a row with the divisor that suits the quotient of two lengths.
 macro_rules! row {
-    ($gaps:ident.$row:ident($($argument:expr),*), $long:ident / $short:ident below 2^$bits:literal) => {
+    ($gaps:ident.$row:ident($count:ident), $long:ident / $short:ident below 2^$bits:literal) => {
         if $gaps.$short > $gaps.$long >> $bits {
-            $gaps.$row::<Selects<$bits>, FINE>($($argument),*)
-        } else if $gaps.$short > $gaps.$long >> 40 {
-            $gaps.$row::<Reciprocal, FINE>($($argument),*)
+            $gaps.$row::<Selects<$bits>>($count)
+        } else if $gaps.$short > $gaps.$long >> R::BITS {
+            $gaps.$row::<R>($count)
         } else {
-            $gaps.$row::<Instruction, FINE>($($argument),*)
+            $gaps.$row::<Instruction>($count)
         }
     };
 }
@@ -107,74 +198,62 @@ impl Gaps {
         Gaps { p: step, q: modulus, u: 1, v: 0, x: 0, d: start }
     }
 
-    /// An even row. Where it reaches the count or the period it is the last one and answers the label: a fine search makes then
-    /// only as many of its cuts as are needed.
+    /// An even row, or its divisions alone where it reaches the count or the period and so is the last one.
     #[inline(always)]
-    fn even<D: Divisor, const FINE: bool>(&mut self, count: u64, index: u64) -> Option<(u64, u64)> {
-        let by = D::new(self.p);
-        let (cuts, rest) = by.divide(self.q);
-        let (moves, left) = by.divide(self.d);
-        let all = self.v + cuts * self.u;
-        if all + self.u < count && rest != 0 {
-            self.q = rest;
-            self.v = all;
-            self.d = left;
-            self.x += moves * self.u;
-            return None;
+    fn even<D: Divisor>(&mut self, count: u64) -> Option<Row> {
+        let row = Row::new::<D>(self.q, self.d, self.p);
+        let all = self.v + row.cuts * self.u;
+        if all + self.u >= count || row.rest == 0 {
+            return Some(row);
         }
-        let part = match rest {
-            _ if FINE && all >= count => D::new(self.u).divide(count - self.v - 1).0,
-            0 => cuts - 1,
-            _ => cuts,
-        };
-        let moves = moves.min(part);
-        self.v += part * self.u;
-        self.d -= moves * self.p;
-        self.x += moves * self.u;
-        Some(label::<FINE>(index, part, cuts))
+        self.q = row.rest;
+        self.v = all;
+        self.d = row.left;
+        self.x += row.passed * self.u;
+        None
     }
 
     /// An odd row, in the same way.
     #[inline(always)]
-    fn odd<D: Divisor, const FINE: bool>(&mut self, count: u64, index: u64) -> Option<(u64, u64)> {
-        let by = D::new(self.q);
-        let (cuts, rest) = by.divide(self.p);
-        let all = self.u + cuts * self.v;
-        if all + self.v < count && rest != 0 {
-            self.p = rest;
-            self.u = all;
-            self.move_odd(by);
-            return None;
+    fn odd<D: Divisor>(&mut self, count: u64) -> Option<Row> {
+        // One less than the way: a cut at the start itself is not passed.
+        let row = Row::new::<D>(self.p, self.p - 1 - self.d, self.q);
+        let all = self.u + row.cuts * self.v;
+        if all + self.v >= count || row.rest == 0 {
+            return Some(row);
         }
-        let part = match rest {
-            _ if FINE && all >= count => D::new(self.v).divide(count - self.u - 1).0,
-            0 => cuts - 1,
-            _ => cuts,
-        };
-        self.p -= part * self.q;
-        self.u += part * self.v;
-        self.move_odd(by);
-        Some(label::<FINE>(index, part, cuts))
+        self.move_odd(&row, row.cuts);
+        self.p = row.rest;
+        self.u = all;
+        None
     }
 
-    /// The move of an odd row, whose cuts are made already: in a gap p that was cut, to a point above its rest.
+    /// The move of an odd row that makes so many cuts: in a gap p, to the first that is not passed, if there is one.
     #[inline(always)]
-    fn move_odd(&mut self, by: impl Divisor) {
-        let above = self.d.wrapping_sub(self.p);
-        let stays = (above as i64) < 0 || self.x >= self.v;
-        let (back, left) = by.divide(select(stays, 0, above));
-        self.d = select(stays, self.d, left);
-        self.x += select(stays, 0, self.u.wrapping_sub(back * self.v));
+    fn move_odd(&mut self, row: &Row, cuts: u64) {
+        let stays = row.passed >= cuts || self.x >= self.v;
+        self.d = select(stays, self.d, self.q - 1 - row.left);
+        self.x += select(stays, 0, self.u + self.v + row.passed * self.v);
     }
-}
 
-/// The label after so many of a row's cuts; a regular search's has only the index, of the next row.
-#[inline(always)]
-fn label<const FINE: bool>(index: u64, part: u64, cuts: u64) -> (u64, u64) {
-    if FINE && part < cuts {
-        (index, part)
-    } else {
-        (index + 1, 0)
+    /// The last row, if even; answers the label.
+    #[inline(always)]
+    fn end_even<const FINE: bool>(&mut self, row: Row, index: u64, count: u64) -> (u64, u64) {
+        let part = row.part::<FINE>(self.u, self.v, count);
+        let moves = row.passed.min(part);
+        self.v += part * self.u;
+        self.d -= moves * self.p;
+        self.x += moves * self.u;
+        row.label::<FINE>(index, part)
+    }
+
+    /// The last row, if odd.
+    #[inline(always)]
+    fn end_odd<const FINE: bool>(&mut self, row: Row, index: u64, count: u64) -> (u64, u64) {
+        let part = row.part::<FINE>(self.v, self.u, count);
+        self.move_odd(&row, part);
+        self.u += part * self.v;
+        row.label::<FINE>(index, part)
     }
 }
 
@@ -198,41 +277,41 @@ pub fn refusal(modulus: u64, step: u64, start: u64, count: u64, window: u64) -> 
 
 /// The rows of a search to the last one, which gives the label.
 #[inline(always)]
-fn rows<const FINE: bool>(gaps: &mut Gaps, count: u64) -> (u64, u64) {
+fn rows<R: Large, const FINE: bool>(gaps: &mut Gaps, count: u64) -> (u64, u64) {
     if count == 1 || gaps.p == 0 {
         return (0, 0);
     }
     let mut index = 0;
-    let mut reached = row!(gaps.even(count, index), q / p below 2^2);
+    let mut last = row!(gaps.even(count), q / p below 2^2);
     loop {
-        if let Some(label) = reached {
-            return label;
+        if let Some(row) = last {
+            return gaps.end_even::<FINE>(row, index, count);
         }
-        if let Some(label) = row!(gaps.odd(count, index + 1), p / q below 2^3) {
-            return label;
+        if let Some(row) = row!(gaps.odd(count), p / q below 2^3) {
+            return gaps.end_odd::<FINE>(row, index + 1, count);
         }
         index += 2;
-        reached = row!(gaps.even(count, index), q / p below 2^3);
+        last = row!(gaps.even(count), q / p below 2^3);
     }
 }
 
 #[inline(never)]
-pub fn regular(modulus: u64, step: u64, start: u64, count: u64, window: u64, shown: &mut [u64; 5]) -> u32 {
+pub fn regular<R: Large>(modulus: u64, step: u64, start: u64, count: u64, window: u64, shown: &mut [u64; 5]) -> u32 {
     let refusal = refusal(modulus, step, start, count, window);
     if refusal == 0 {
         let mut gaps = Gaps::start(modulus, step, start);
-        let (index, _) = rows::<false>(&mut gaps, count);
+        let (index, _) = rows::<R, false>(&mut gaps, count);
         *shown = [gaps.u + gaps.v, index, gaps.d, gaps.x, (gaps.d >= window) as u64];
     }
     refusal
 }
 
 #[inline(never)]
-pub fn fine(modulus: u64, step: u64, start: u64, count: u64, window: u64, shown: &mut [u64; 6]) -> u32 {
+pub fn fine<R: Large>(modulus: u64, step: u64, start: u64, count: u64, window: u64, shown: &mut [u64; 6]) -> u32 {
     let refusal = refusal(modulus, step, start, count, window);
     if refusal == 0 {
         let mut gaps = Gaps::start(modulus, step, start);
-        let (index, part) = rows::<true>(&mut gaps, count);
+        let (index, part) = rows::<R, true>(&mut gaps, count);
         *shown = [gaps.u + gaps.v, index, part, gaps.d, gaps.x, (gaps.d >= window) as u64];
     }
     refusal

@@ -84,10 +84,6 @@ module _ {k : Search} {s : Segment} {odd : Bool} {t : State} (r : At-row k s odd
   abbrev next : State
   next = in-next-row (s .count) (cut-state odd (all-cuts t) t)
 
-  next-points : points next ≡ t .shorts + all-cuts t * t .longs + t .longs
-  unfolding in-next-row cut-state
-  next-points = refl
-
   -- where that is what is still to go: done if its first configuration is enough
   next-row : 0 < t .long % t .short
       → reached k s ≡ from k (s .count) (suc (t .index)) (t .short) (t .long % t .short) (t .longs) (t .shorts + t .long / t .short * t .longs)
