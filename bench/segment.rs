@@ -1,7 +1,7 @@
 //! Both searches of random segments with a modulus from 2^61 to 2^62: the proved calls against unverified Rust. First the same
-//! code; then what can be had by arranging it for the processor, with hints that no branch is meant; then that with reciprocals in
-//! place of the division instruction, in whole and in floating-point numbers; last Lefèvre's published search. The windows leave
-//! about one segment in a thousand not clear.
+//! code; then the searches arranged by hand for the processor, with hints that no branch is meant: with the division instruction
+//! for every quotient, with that instruction for those from 8 up as the proved code has it, and with reciprocals for those, in whole
+//! and in floating-point numbers; last Lefèvre's published search. The windows leave about one segment in a thousand not clear.
 
 #[path = "../tests/c_api.rs"]
 mod c_api;
@@ -91,12 +91,14 @@ fn check_answers(segments: &[Segment]) {
     for s in segments {
         let regular = shown(|m, a, b, n, w, to| c_api::regular_search(m, a, b, n, w, to), s);
         assert_eq!(regular, shown(same::regular, s));
-        assert_eq!(regular, shown(tuned::regular::<Instruction>, s));
+        assert_eq!(regular, shown(tuned::regular::<Instruction<false>>, s));
+        assert_eq!(regular, shown(tuned::regular::<Instruction<true>>, s));
         assert_eq!(regular, shown(tuned::regular::<Whole>, s));
         assert_eq!(regular, shown(tuned::regular::<Float>, s));
         let fine = shown(|m, a, b, n, w, to| c_api::fine_search(m, a, b, n, w, to), s);
         assert_eq!(fine, shown(same::fine, s));
-        assert_eq!(fine, shown(tuned::fine::<Instruction>, s));
+        assert_eq!(fine, shown(tuned::fine::<Instruction<false>>, s));
+        assert_eq!(fine, shown(tuned::fine::<Instruction<true>>, s));
         assert_eq!(fine, shown(tuned::fine::<Whole>, s));
         assert_eq!(fine, shown(tuned::fine::<Float>, s));
     }
@@ -127,30 +129,33 @@ fn random_lines() -> Vec<[u64; 3]> {
 /// Times every search in each repetition, so that what disturbs the machine meets all of them; prints medians, of the times and
 /// of the ratios within a repetition.
 fn measure(power: u32, segments: &[Segment]) {
-    let times: Vec<[f64; 11]> = (0..REPETITIONS)
+    let times: Vec<[f64; 13]> = (0..REPETITIONS)
         .map(|_| {
             [
                 nanoseconds(|m, a, b, n, w, to| c_api::regular_search(m, a, b, n, w, to), segments, [0; 5]),
                 nanoseconds(same::regular, segments, [0; 5]),
-                nanoseconds(tuned::regular::<Instruction>, segments, [0; 5]),
+                nanoseconds(tuned::regular::<Instruction<false>>, segments, [0; 5]),
+                nanoseconds(tuned::regular::<Instruction<true>>, segments, [0; 5]),
                 nanoseconds(tuned::regular::<Whole>, segments, [0; 5]),
                 nanoseconds(tuned::regular::<Float>, segments, [0; 5]),
                 nanoseconds(|m, a, b, n, w, to| c_api::fine_search(m, a, b, n, w, to), segments, [0; 6]),
                 nanoseconds(same::fine, segments, [0; 6]),
-                nanoseconds(tuned::fine::<Instruction>, segments, [0; 6]),
+                nanoseconds(tuned::fine::<Instruction<false>>, segments, [0; 6]),
+                nanoseconds(tuned::fine::<Instruction<true>>, segments, [0; 6]),
                 nanoseconds(tuned::fine::<Whole>, segments, [0; 6]),
                 nanoseconds(tuned::fine::<Float>, segments, [0; 6]),
                 nanoseconds(lefevre, segments, false),
             ]
         })
         .collect();
-    for (name, proved) in [("regular", 0), ("fine", 5)] {
+    for (name, proved) in [("regular", 0), ("fine", 6)] {
         let others = [
             ("", proved + 1),
-            (", arranged by hand", proved + 2),
-            (", whole-number reciprocals", proved + 3),
-            (", floating-point reciprocals", proved + 4),
-            (", Lefevre", 10),
+            (", every quotient divided", proved + 2),
+            (", arranged by hand", proved + 3),
+            (", whole-number reciprocals", proved + 4),
+            (", floating-point reciprocals", proved + 5),
+            (", Lefevre", 12),
         ];
         for (against, other) in others {
             let [proved_time, other_time] = [proved, other].map(|i| median(times.iter().map(|t| t[i])));

@@ -2,9 +2,9 @@
 //! refusals and answers as the proved calls.
 //!
 //! Two rows a turn, so that none asks whether it is even. The only branch in a row that is hard to foresee is on the size of its
-//! quotient: below 8, as five in six are, it is found by three selects. Each search comes in three versions, by what it does with
-//! larger quotients: the division instruction, as the proved code; one reciprocal for both divisions of a row, which have the same
-//! divisor, in whole numbers; the same in floating-point numbers.
+//! quotient: below 8, as five in six are, it is found by three selects. Each search comes in four versions: the division
+//! instruction for every quotient; or, for those from 8 up, that instruction, as the proved code; one reciprocal for both divisions
+//! of a row, which have the same divisor, in whole numbers; the same in floating-point numbers.
 
 use std::hint::select_unpredictable as select;
 
@@ -44,6 +44,9 @@ impl<const BITS: u32> Divisor for Selects<BITS> {
 pub trait Large: Divisor {
     /// For quotients below 2^BITS.
     const BITS: u32;
+
+    /// Whether small quotients are found by selects.
+    const SELECTS: bool = true;
 }
 
 /// Quotient and remainder, from a quotient that is right or one too small.
@@ -109,11 +112,11 @@ impl Large for Float {
     const BITS: u32 = 40;
 }
 
-/// The division instruction: for all other quotients, or for all from 8 up.
+/// The division instruction: for all other quotients, or for all from 8 up, or, without selects, for every one.
 #[derive(Clone, Copy)]
-pub struct Instruction(u64);
+pub struct Instruction<const SELECTS: bool>(u64);
 
-impl Divisor for Instruction {
+impl<const SELECTS: bool> Divisor for Instruction<SELECTS> {
     #[inline(always)]
     fn new(divisor: u64) -> Self {
         Instruction(divisor)
@@ -125,8 +128,9 @@ impl Divisor for Instruction {
     }
 }
 
-impl Large for Instruction {
+impl<const SELECTS: bool> Large for Instruction<SELECTS> {
     const BITS: u32 = 63;
+    const SELECTS: bool = SELECTS;
 }
 
 /// The divisions of a row: how often the long gaps can be cut and what that leaves of them; how many cuts are passed on the way
@@ -182,12 +186,12 @@ struct Gaps {
 /// Calls a row with the divisor that suits the quotient of two lengths.
 macro_rules! row {
     ($gaps:ident.$row:ident($count:ident), $long:ident / $short:ident below 2^$bits:literal) => {
-        if $gaps.$short > $gaps.$long >> $bits {
+        if R::SELECTS && $gaps.$short > $gaps.$long >> $bits {
             $gaps.$row::<Selects<$bits>>($count)
         } else if $gaps.$short > $gaps.$long >> R::BITS {
             $gaps.$row::<R>($count)
         } else {
-            $gaps.$row::<Instruction>($count)
+            $gaps.$row::<Instruction<true>>($count)
         }
     };
 }
