@@ -2,6 +2,7 @@
 
 #[path = "../tests/c_api.rs"]
 mod c_api;
+mod common;
 
 use c_api::{Column, ROWS};
 use std::hint::black_box;
@@ -117,25 +118,8 @@ fn nanoseconds(expand: Expand, pairs: &[(u64, u64)], to: &mut Memory) -> f64 {
     start.elapsed().as_secs_f64() * 1e9 / pairs.len() as f64
 }
 
-fn median(mut times: Vec<f64>) -> f64 {
-    times.sort_by(f64::total_cmp);
-    times[times.len() / 2]
-}
-
 fn main() {
-    let mut state = 88_172_645_463_325_252u64;
-    let mut random = || {
-        state ^= state << 13;
-        state ^= state >> 7;
-        state ^= state << 17;
-        state
-    };
-    let pairs: Vec<(u64, u64)> = (0..PAIRS)
-        .map(|_| {
-            let modulus = (1 << 61) + random() % ((1 << 61) + 1);
-            (modulus, random() % modulus)
-        })
-        .collect();
+    let pairs: Vec<(u64, u64)> = common::lines(PAIRS).iter().map(|&[modulus, step, _]| (modulus, step)).collect();
     let mut to = ZEROS;
     let contenders: [Expand; 3] = [proved, by_value::handed_over, in_place];
     let mut times = [const { Vec::new() }; 3];
@@ -144,7 +128,7 @@ fn main() {
             times.push(nanoseconds(*expand, &pairs, &mut to));
         }
     }
-    let [proved, by_value, in_place] = times.map(median);
+    let [proved, by_value, in_place] = times.map(|times| common::median(times.into_iter()));
     println!("expansion, table by value\t{proved:.1}\t{by_value:.1}\t{:.3}", proved / by_value);
     println!("expansion, filled in place\t{proved:.1}\t{in_place:.1}\t{:.3}", proved / in_place);
 }

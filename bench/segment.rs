@@ -5,9 +5,11 @@
 
 #[path = "../tests/c_api.rs"]
 mod c_api;
+mod common;
 mod same;
 mod tuned;
 
+use common::median;
 use std::hint::black_box;
 use std::time::Instant;
 use tuned::{Float, Instruction, Whole};
@@ -104,28 +106,6 @@ fn check_answers(segments: &[Segment]) {
     }
 }
 
-fn median(times: impl Iterator<Item = f64>) -> f64 {
-    let mut times: Vec<f64> = times.collect();
-    times.sort_by(f64::total_cmp);
-    times[times.len() / 2]
-}
-
-fn random_lines() -> Vec<[u64; 3]> {
-    let mut state = 88_172_645_463_325_252u64;
-    let mut random = || {
-        state ^= state << 13;
-        state ^= state >> 7;
-        state ^= state << 17;
-        state
-    };
-    (0..SEGMENTS)
-        .map(|_| {
-            let modulus = (1 << 61) + random() % ((1 << 61) + 1);
-            [modulus, random() % modulus, random() % modulus]
-        })
-        .collect()
-}
-
 /// Times every search in each repetition, so that what disturbs the machine meets all of them; prints medians, of the times and
 /// of the ratios within a repetition.
 fn measure(power: u32, segments: &[Segment]) {
@@ -166,7 +146,7 @@ fn measure(power: u32, segments: &[Segment]) {
 }
 
 fn main() {
-    let lines = random_lines();
+    let lines = common::lines(SEGMENTS);
     for power in [12, 15, 20] {
         let segments: Vec<Segment> = lines
             .iter()

@@ -1,0 +1,25 @@
+//! What both programs use: random lines, the same in every run, and the median of times.
+
+/// A modulus from 2^61 to 2^62, a step and a start.
+pub fn lines(number: usize) -> Vec<[u64; 3]> {
+    let mut state = 88_172_645_463_325_252u64;
+    let mut random = || {
+        state ^= state << 13;
+        state ^= state >> 7;
+        state ^= state << 17;
+        state
+    };
+    (0..number)
+        .map(|_| {
+            let modulus = (1 << 61) + random() % ((1 << 61) + 1);
+            [modulus, random() % modulus, random() % modulus]
+        })
+        .collect()
+}
+
+/// The one in the middle.
+pub fn median(times: impl Iterator<Item = f64>) -> f64 {
+    let mut times: Vec<f64> = times.collect();
+    times.sort_by(f64::total_cmp);
+    times[times.len() / 2]
+}
