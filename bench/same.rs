@@ -2,50 +2,6 @@
 //! takes without its proofs.
 
 #[derive(Clone, Copy)]
-struct Division {
-    quotient: u64,
-    remainder: u64,
-}
-
-#[inline(always)]
-fn divide(a: u64, b: u64, few: bool) -> Division {
-    if few {
-        return divide_few(a, b);
-    }
-    Division { quotient: a / b, remainder: a % b }
-}
-
-#[inline(always)]
-fn divide_few(a: u64, b: u64) -> Division {
-    let below_four = reduce(a, 4 * b);
-    let below_two = reduce_small(below_four, 2 * b);
-    Division {
-        quotient: 4 * fits(a, 4 * b) + 2 * fits(below_four, 2 * b) + fits(below_two, b),
-        remainder: reduce_small(below_two, b),
-    }
-}
-
-#[inline(always)]
-fn fits(a: u64, b: u64) -> u64 {
-    (b <= a) as u64
-}
-
-#[inline(always)]
-fn reduce(a: u64, b: u64) -> u64 {
-    a.min(a.wrapping_sub(b))
-}
-
-#[inline(always)]
-fn reduce_small(a: u64, b: u64) -> u64 {
-    let less = a.wrapping_sub(b);
-    if less < 1 << 63 {
-        less
-    } else {
-        a
-    }
-}
-
-#[derive(Clone, Copy)]
 struct State {
     long: u64,
     short: u64,
@@ -62,11 +18,13 @@ struct State {
 struct Cuts {
     number: u64,
     rest: u64,
-    few: bool,
 }
 
-/// An argument and its residue.
-type Moved = (u64, u64);
+#[derive(Clone, Copy)]
+struct Moved {
+    argument: u64,
+    distance: u64,
+}
 
 #[inline(always)]
 fn first(modulus: u64, step: u64, start: u64, count: u64) -> State {
@@ -85,122 +43,168 @@ fn first(modulus: u64, step: u64, start: u64, count: u64) -> State {
 
 #[inline(always)]
 fn regular_even(state: State, count: u64) -> State {
-    let all = cuts_all(state);
-    next_row(state, all, carry_all_left(state, all), count)
+    let row = divide(state);
+    if row.rest == 0 {
+        return next_row(state, cut(state, row.number - 1), carry_all_left(state), true);
+    }
+    next_row(state, row, carry_all_left(state), reaches(state, row, count))
 }
 
 #[inline(always)]
 fn regular_odd(state: State, count: u64) -> State {
-    let all = cuts_all(state);
-    next_row(state, all, carry_right(state, all), count)
+    let row = divide(state);
+    if row.rest == 0 {
+        let all = cut(state, row.number - 1);
+        return next_row(state, all, carry_right(state, all), true);
+    }
+    next_row(state, row, carry_right(state, row), reaches(state, row, count))
 }
 
 #[inline(always)]
 fn fine_even(state: State, count: u64) -> State {
-    let all = cuts_all(state);
-    if passes(state, all, count) {
-        return next_row(state, all, carry_all_left(state, all), count);
+    let row = divide(state);
+    let moved = carry_all_left(state);
+    if ends(state, row, count) {
+        let cuts = cut(state, cuts_to(state, row, count));
+        return end(state, cuts, carry_left(state, cuts), cuts.number == row.number);
     }
-    let cuts = cuts_to(state, all, count);
-    end(state, cuts, carry_left(state, cuts))
+    next_row(state, row, moved, false)
 }
 
 #[inline(always)]
 fn fine_odd(state: State, count: u64) -> State {
-    let all = cuts_all(state);
-    if passes(state, all, count) {
-        return next_row(state, all, carry_right(state, all), count);
+    let row = divide(state);
+    let moved = carry_right(state, row);
+    if ends(state, row, count) {
+        let cuts = cut(state, cuts_to(state, row, count));
+        return end(state, cuts, carry_right(state, cuts), cuts.number == row.number);
     }
-    let cuts = cuts_to(state, all, count);
-    end(state, cuts, carry_right(state, cuts))
+    next_row(state, row, moved, false)
 }
 
 #[inline(always)]
-fn cuts_all(state: State) -> Cuts {
-    let few = state.long / 8 < state.short;
-    let all = divide(state.long - 1, state.short, few);
-    Cuts { number: all.quotient, rest: all.remainder + 1, few }
+fn divide(state: State) -> Cuts {
+    Cuts { number: state.long / state.short, rest: state.long % state.short }
 }
 
 #[inline(always)]
-fn passes(state: State, all: Cuts, count: u64) -> bool {
-    state.shorts + all.number * state.longs < count && all.rest < state.short
+fn cut(state: State, number: u64) -> Cuts {
+    Cuts { number, rest: state.long - number * state.short }
 }
 
 #[inline(always)]
-fn cuts_to(state: State, all: Cuts, count: u64) -> Cuts {
-    if state.shorts + all.number * state.longs < count {
-        return all;
+fn ends(state: State, row: Cuts, count: u64) -> bool {
+    row.rest == 0 || reaches(state, row, count)
+}
+
+#[inline(always)]
+fn reaches(state: State, row: Cuts, count: u64) -> bool {
+    count <= state.shorts + row.number * state.longs + state.longs
+}
+
+#[inline(always)]
+fn cuts_to(state: State, row: Cuts, count: u64) -> u64 {
+    all_cuts(row).min((count - state.shorts - 1) / state.longs)
+}
+
+#[inline(always)]
+fn all_cuts(row: Cuts) -> u64 {
+    if row.rest == 0 {
+        row.number - 1
+    } else {
+        row.number
     }
-    let number = divide(count - state.shorts - 1, state.longs, all.few).quotient;
-    Cuts { number, rest: state.long - number * state.short, few: all.few }
 }
 
 #[inline(always)]
-fn carry_all_left(state: State, all: Cuts) -> Moved {
-    let moves = divide(state.distance, state.short, all.few);
-    (state.argument + moves.quotient * state.longs, moves.remainder)
+fn carry_all_left(state: State) -> Moved {
+    Moved { argument: state.argument + state.distance / state.short * state.longs, distance: state.distance % state.short }
 }
 
 #[inline(always)]
 fn carry_left(state: State, cuts: Cuts) -> Moved {
-    let moves = divide(state.distance, state.short, cuts.few);
-    if moves.quotient <= cuts.number {
-        return (state.argument + moves.quotient * state.longs, moves.remainder);
-    }
-    (state.argument + cuts.number * state.longs, state.distance - cuts.number * state.short)
+    let moves = cuts.number.min(state.distance / state.short);
+    Moved { argument: state.argument + moves * state.longs, distance: state.distance - moves * state.short }
 }
 
 #[inline(always)]
 fn carry_right(state: State, cuts: Cuts) -> Moved {
-    if state.longs <= state.argument || state.distance < cuts.rest {
-        return (state.argument, state.distance);
+    let over = state.distance.saturating_sub(cuts.rest);
+    let back = over / state.short;
+    let moved = Moved {
+        argument: state.argument + (state.shorts + cuts.number * state.longs - back * state.longs),
+        distance: over % state.short,
+    };
+    // In two tests: the compiler makes a branch of one that has both conditions.
+    if state.longs <= state.argument {
+        return unmoved(state);
     }
-    let back = divide(state.distance - cuts.rest, state.short, cuts.few);
-    (state.argument + (state.shorts + cuts.number * state.longs - back.quotient * state.longs), back.remainder)
+    if state.distance < cuts.rest {
+        return unmoved(state);
+    }
+    moved
 }
 
 #[inline(always)]
-fn next_row(state: State, cuts: Cuts, (argument, distance): Moved, count: u64) -> State {
-    let longs = state.shorts + cuts.number * state.longs;
+fn unmoved(state: State) -> Moved {
+    Moved { argument: state.argument, distance: state.distance }
+}
+
+#[inline(always)]
+fn next_row(state: State, cuts: Cuts, moved: Moved, done: bool) -> State {
     State {
         long: state.short,
         short: cuts.rest,
-        longs,
+        longs: state.shorts + cuts.number * state.longs,
         shorts: state.longs,
-        argument,
-        distance,
+        argument: moved.argument,
+        distance: moved.distance,
         part: 0,
         index: state.index + 1,
-        done: count <= longs + state.longs || state.short == cuts.rest,
+        done,
     }
 }
 
 #[inline(always)]
-fn end(state: State, cuts: Cuts, (argument, distance): Moved) -> State {
+fn end(state: State, cuts: Cuts, moved: Moved, whole: bool) -> State {
+    let shorts = state.shorts + cuts.number * state.longs;
     State {
-        long: cuts.rest,
-        shorts: state.shorts + cuts.number * state.longs,
-        argument,
-        distance,
-        part: cuts.number,
+        long: pick(whole, state.short, cuts.rest),
+        short: pick(whole, cuts.rest, state.short),
+        longs: pick(whole, shorts, state.longs),
+        shorts: pick(whole, state.longs, shorts),
+        argument: moved.argument,
+        distance: moved.distance,
+        part: pick(whole, 0, cuts.number),
+        index: state.index + whole as u32,
         done: true,
-        ..state
+    }
+}
+
+#[inline(always)]
+fn pick(first: bool, a: u64, b: u64) -> u64 {
+    if first {
+        a
+    } else {
+        b
     }
 }
 
 /// Even and odd rows in turn, until the search is done.
 #[inline(always)]
 fn search(mut state: State, count: u64, even: fn(State, u64) -> State, odd: fn(State, u64) -> State) -> State {
+    if state.done {
+        return state;
+    }
     while state.index < 29 {
-        if state.done {
-            return state;
-        }
         state = even(state, count);
         if state.done {
             return state;
         }
         state = odd(state, count);
+        if state.done {
+            return state;
+        }
     }
     state
 }

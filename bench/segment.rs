@@ -1,7 +1,7 @@
 //! Both searches of random segments with a modulus from 2^61 to 2^62: the proved calls against unverified Rust. First the same
-//! code; then the searches arranged by hand for the processor, with hints that no branch is meant: with the division instruction
-//! for every quotient, with that instruction for those from 8 up as the proved code has it, and with reciprocals for those, in whole
-//! and in floating-point numbers; last Lefèvre's published search. The windows leave about one segment in a thousand not clear.
+//! code; then the searches arranged by hand, by the division instruction as the proved code has it, and with selects for quotients
+//! below 8 and the instruction or a floating-point reciprocal for the others; last Lefèvre's published search. The windows leave
+//! about one segment in a thousand not clear.
 
 #[path = "../tests/c_api.rs"]
 mod c_api;
@@ -12,10 +12,11 @@ mod tuned;
 use common::median;
 use std::hint::black_box;
 use std::time::Instant;
-use tuned::{Float, Instruction, Whole};
+use tuned::{Float, Instruction};
 
-const SEGMENTS: usize = 4096;
-const REPETITIONS: usize = 201;
+/// Too many for a branch predictor to learn the way of each, and not too many for the cache.
+const SEGMENTS: usize = 32_768;
+const REPETITIONS: usize = 61;
 
 #[derive(Clone, Copy)]
 struct Segment {
@@ -95,13 +96,11 @@ fn check_answers(segments: &[Segment]) {
         assert_eq!(regular, shown(same::regular, s));
         assert_eq!(regular, shown(tuned::regular::<Instruction<false>>, s));
         assert_eq!(regular, shown(tuned::regular::<Instruction<true>>, s));
-        assert_eq!(regular, shown(tuned::regular::<Whole>, s));
         assert_eq!(regular, shown(tuned::regular::<Float>, s));
         let fine = shown(|m, a, b, n, w, to| c_api::fine_search(m, a, b, n, w, to), s);
         assert_eq!(fine, shown(same::fine, s));
         assert_eq!(fine, shown(tuned::fine::<Instruction<false>>, s));
         assert_eq!(fine, shown(tuned::fine::<Instruction<true>>, s));
-        assert_eq!(fine, shown(tuned::fine::<Whole>, s));
         assert_eq!(fine, shown(tuned::fine::<Float>, s));
     }
 }
@@ -109,33 +108,30 @@ fn check_answers(segments: &[Segment]) {
 /// Times every search in each repetition, so that what disturbs the machine meets all of them; prints medians, of the times and
 /// of the ratios within a repetition.
 fn measure(power: u32, segments: &[Segment]) {
-    let times: Vec<[f64; 13]> = (0..REPETITIONS)
+    let times: Vec<[f64; 11]> = (0..REPETITIONS)
         .map(|_| {
             [
                 nanoseconds(|m, a, b, n, w, to| c_api::regular_search(m, a, b, n, w, to), segments, [0; 5]),
                 nanoseconds(same::regular, segments, [0; 5]),
                 nanoseconds(tuned::regular::<Instruction<false>>, segments, [0; 5]),
                 nanoseconds(tuned::regular::<Instruction<true>>, segments, [0; 5]),
-                nanoseconds(tuned::regular::<Whole>, segments, [0; 5]),
                 nanoseconds(tuned::regular::<Float>, segments, [0; 5]),
                 nanoseconds(|m, a, b, n, w, to| c_api::fine_search(m, a, b, n, w, to), segments, [0; 6]),
                 nanoseconds(same::fine, segments, [0; 6]),
                 nanoseconds(tuned::fine::<Instruction<false>>, segments, [0; 6]),
                 nanoseconds(tuned::fine::<Instruction<true>>, segments, [0; 6]),
-                nanoseconds(tuned::fine::<Whole>, segments, [0; 6]),
                 nanoseconds(tuned::fine::<Float>, segments, [0; 6]),
                 nanoseconds(lefevre, segments, false),
             ]
         })
         .collect();
-    for (name, proved) in [("regular", 0), ("fine", 6)] {
+    for (name, proved) in [("regular", 0), ("fine", 5)] {
         let others = [
             ("", proved + 1),
-            (", every quotient divided", proved + 2),
-            (", arranged by hand", proved + 3),
-            (", whole-number reciprocals", proved + 4),
-            (", floating-point reciprocals", proved + 5),
-            (", Lefevre", 12),
+            (", arranged by hand", proved + 2),
+            (", selects", proved + 3),
+            (", selects and reciprocals", proved + 4),
+            (", Lefevre", 10),
         ];
         for (against, other) in others {
             let [proved_time, other_time] = [proved, other].map(|i| median(times.iter().map(|t| t[i])));

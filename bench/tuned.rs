@@ -1,10 +1,10 @@
-//! Both searches in unverified Rust, as fast as we know to make them on a machine whose division instruction is slow: the same
-//! refusals and answers as the proved calls.
+//! Both searches in unverified Rust, as fast as we know to make them, with the same refusals and answers as the proved calls.
 //!
-//! Two rows a turn, so that none asks whether it is even. The only branch in a row that is hard to foresee is on the size of its
-//! quotient: below 8, as five in six are, it is found by three selects. Each search comes in four versions: the division
-//! instruction for every quotient; or, for those from 8 up, that instruction, as the proved code; one reciprocal for both divisions
-//! of a row, which have the same divisor, in whole numbers; the same in floating-point numbers.
+//! Two rows a turn, so that none asks whether it is even, and hints that no branch is meant. Each search comes in three versions. One
+//! divides by the instruction, which is the fastest where that takes some fifteen cycles. The others are for processors where it
+//! takes several times that: the only branch in a row that is hard to foresee is on the size of its quotient, and below 8, as five in
+//! six are, it is found by three selects; those from 8 up by the instruction, or by one reciprocal in floating-point numbers for both
+//! divisions of a row, which have the same divisor.
 
 use std::hint::select_unpredictable as select;
 
@@ -56,34 +56,6 @@ fn correct(number: u64, divisor: u64, quotient: u64) -> (u64, u64) {
     let less = rest.wrapping_sub(divisor);
     let under = (less as i64) < 0;
     (quotient + !under as u64, select(under, rest, less))
-}
-
-/// The reciprocal of the divisor's first 16 bits in whole numbers, by a division of 32 bits, which is faster than one of 64.
-#[derive(Clone, Copy)]
-pub struct Whole {
-    divisor: u64,
-    shift: u32,
-    reciprocal: u32,
-}
-
-impl Divisor for Whole {
-    #[inline(always)]
-    fn new(divisor: u64) -> Self {
-        let shift = 48 - (divisor | 1 << 15).leading_zeros();
-        // Rounded up: the divisor itself or above 2^15, so that quotients below 2^14 come out less than 1 too small.
-        let first = ((divisor - 1) >> shift) as u32 + 1;
-        Whole { divisor, shift, reciprocal: u32::MAX / first }
-    }
-
-    #[inline(always)]
-    fn divide(self, number: u64) -> (u64, u64) {
-        let quotient = (number >> self.shift).wrapping_mul(self.reciprocal as u64) >> 32;
-        correct(number, self.divisor, quotient)
-    }
-}
-
-impl Large for Whole {
-    const BITS: u32 = 14;
 }
 
 /// The reciprocal as a floating-point number.
@@ -143,14 +115,6 @@ struct Row {
 }
 
 impl Row {
-    #[inline(always)]
-    fn new<D: Divisor>(long: u64, way: u64, short: u64) -> Self {
-        let by = D::new(short);
-        let (cuts, rest) = by.divide(long);
-        let (passed, left) = by.divide(way);
-        Row { cuts, rest, passed, left }
-    }
-
     /// Of a search's last row, how many cuts it makes: as many as leave something of a long gap, and in a fine search no more than
     /// the count needs.
     #[inline(always)]
@@ -205,39 +169,38 @@ impl Gaps {
     /// An even row, or its divisions alone where it reaches the count or the period and so is the last one.
     #[inline(always)]
     fn even<D: Divisor>(&mut self, count: u64) -> Option<Row> {
-        let row = Row::new::<D>(self.q, self.d, self.p);
-        let all = self.v + row.cuts * self.u;
-        if all + self.u >= count || row.rest == 0 {
-            return Some(row);
+        let by = D::new(self.p);
+        let (cuts, rest) = by.divide(self.q);
+        let (passed, left) = by.divide(self.d);
+        let all = self.v + cuts * self.u;
+        if all + self.u >= count || rest == 0 {
+            return Some(Row { cuts, rest, passed, left });
         }
-        self.q = row.rest;
+        self.q = rest;
         self.v = all;
-        self.d = row.left;
-        self.x += row.passed * self.u;
+        self.d = left;
+        self.x += passed * self.u;
         None
     }
 
-    /// An odd row, in the same way.
+    /// An odd row, in the same way. All cuts are passed from the end where they stop, so that the remainder is the new distance.
     #[inline(always)]
     fn odd<D: Divisor>(&mut self, count: u64) -> Option<Row> {
-        // One less than the way: a cut at the start itself is not passed.
-        let row = Row::new::<D>(self.p, self.p - 1 - self.d, self.q);
-        let all = self.u + row.cuts * self.v;
-        if all + self.v >= count || row.rest == 0 {
-            return Some(row);
+        let by = D::new(self.q);
+        let (cuts, rest) = by.divide(self.p);
+        let all = self.u + cuts * self.v;
+        if all + self.v >= count || rest == 0 {
+            // One less than the way: a cut at the start itself is not passed.
+            let (passed, left) = by.divide(self.p - 1 - self.d);
+            return Some(Row { cuts, rest, passed, left });
         }
-        self.move_odd(&row, row.cuts);
-        self.p = row.rest;
+        let (back, left) = by.divide(self.d.saturating_sub(rest));
+        let stays = self.d < rest || self.x >= self.v;
+        self.d = select(stays, self.d, left);
+        self.x += select(stays, 0, self.u + (cuts - back) * self.v);
+        self.p = rest;
         self.u = all;
         None
-    }
-
-    /// The move of an odd row that makes so many cuts: in a gap p, to the first that is not passed, if there is one.
-    #[inline(always)]
-    fn move_odd(&mut self, row: &Row, cuts: u64) {
-        let stays = row.passed >= cuts || self.x >= self.v;
-        self.d = select(stays, self.d, self.q - 1 - row.left);
-        self.x += select(stays, 0, self.u + self.v + row.passed * self.v);
     }
 
     /// The last row, if even; answers the label.
@@ -255,7 +218,9 @@ impl Gaps {
     #[inline(always)]
     fn end_odd<const FINE: bool>(&mut self, row: Row, index: u64, count: u64) -> (u64, u64) {
         let part = row.part::<FINE>(self.v, self.u, count);
-        self.move_odd(&row, part);
+        let stays = row.passed >= part || self.x >= self.v;
+        self.d = select(stays, self.d, self.q - 1 - row.left);
+        self.x += select(stays, 0, self.u + self.v + row.passed * self.v);
         self.u += part * self.v;
         row.label::<FINE>(index, part)
     }

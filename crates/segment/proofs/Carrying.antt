@@ -1,113 +1,52 @@
--- The numbers of a row: how often it is cut, where its argument and distance go, and that all of it fits a word. Assumes nothing.
-use mathlib.Core.Path.{_≡_, refl, _∙_, ap}
-use mathlib.Core.Bool.{Bool, true, false}
-use Prim.Native.Nat.{ℕ, _+_, _-_, _*_, _/_, _%_, _≤_, _<_, min}
-use native.Mathlib.Nat.{mul-le-mul-right, le-of-lt, mod-lt, min-eq-left, min-eq-right, mod-eq-sub-div-mul, div-mul-le-self, div-lt-iff-lt-mul, le-div-iff-mul-le}
+-- The numbers of a row: how often it is cut, where its argument and distance go, whether it is the last. Assumes nothing.
+use mathlib.Core.Path.{_≡_, refl, sym, _∙_, ap}
+use mathlib.Core.Bool.{Bool, true, false, _||_, cond, false≢true}
+use mathlib.Core.Logic.{_⊎_, inl, inr, ⊎-elim, by-cases}
+use Prim.Native.Nat.{ℕ, suc, _+_, _-_, _*_, _/_, _%_, _≤_, _<_}
+use native.Mathlib.Nat.{mul-le-mul-right, lt-of-mul-lt-mul-right, eq-or-lt-of-le, eq-zero-or-pos, mod-lt, min-eq-right, min-le-left, min-le-right, mod-eq-sub-div-mul, div-mul-le-self, div-le-of-le-mul, le-div-iff-mul-le}
+use native.Mathlib.Decide.{decLe}
 use native.Mathlib.Omega.{arith}
-use borrow.Author.Tests.{le-leb, lt-leb, le-ltb, lt-ltb, ltb-true}
-use lib.Dec.{ltb}
-use Rattle.segment.specs.State.{division, all-cuts, cuts-to, cuts-of, Cuttable, Cutting, is-passed, cut-state, in-next-row, fine-next, shown, carried-left, carried-right}
-use Rattle.segment.specs.declared.quotient.Division.{Division}
+use borrow.Author.Tests.{le-leb, lt-leb, le-ltb, lt-ltb, leb-false, eq-eqb, ne-eqb}
+use lib.Dec.{eqb, leb}
+use Rattle.segment.specs.State.{quotient, all-cuts, cuts-to, last-cuts, cuts-of, Cuttable, Cutting, Steppable, Unreached, shown, carried, carried-left, carried-right, row-of, cut-state, in-next-row, ends, is-passed, regular-next, fine-next}
 use Rattle.segment.specs.declared.state.State.{State}
 use Rattle.segment.specs.declared.state.Cuts.{Cuts}
-use Rattle.segment.proofs.Quotients.{below-eight}
+use Rattle.segment.specs.declared.state.Moved.{Moved}
+use Rattle.numbers.proofs.Remainders.{quotient-positive}
+use Rattle.segment.proofs.Quotients.{cuts-exact, cuts-inexact, rest-exact, rest-inexact}
 
 -- fewer cuts can be made where more can
 pub fewer : {i j : ℕ} {s : State} → i ≤ j → Cuttable j s → Cuttable i s
 fewer {i} {j} {s} h c =
     record {
       short-some = c .short-some;
-      short-small = c .short-small;
-      left = omega (arith, c .left, mul-le-mul-right (s .short) h);
+      room = omega (arith, c .room, mul-le-mul-right (s .short) h);
       within = c .within;
       fits = omega (arith, c .fits, mul-le-mul-right (s .longs) h);
     }
 
 -- cuts that can be made, with what belongs to them
 pub cutting : {j : ℕ} {s : State} {c : Cuts} → c ≡ cuts-of j s → Cuttable j s → Cutting c s
-cutting {j} {s} e a =
-    rw e (record { able = a; rest-is = refl; few-is = λ f. below-eight (s .long) (s .short) (ltb-true (s .long / 8) (s .short) f) })
+cutting e a = rw e (record { able = a; rest-is = refl })
 
--- a quotient and a remainder are no larger than they should be
-pub division-fits : {a b : ℕ} {m : Division} → m ≡ division a b → 0 < b → (m .quotient * b ≤ a) × (m .remainder < b)
-division-fits {a} {b} e h = rw e (div-mul-le-self a b, mod-lt a h)
+-- all cuts are no more than the quotient
+pub all-able : {s : State} → Steppable s → Cuttable (all-cuts s) s
+all-able {s} p = fewer (le-div-iff-mul-le (p .whole .short-some) .1 (omega (arith, div-mul-le-self (s .long - 1) (s .short)))) (p .whole)
 
--- ---- how many cuts
-
-module _ (s : State) where
-  -- all of them
-  pub all-of : {m : Division} → m ≡ division (s .long - 1) (s .short) → 0 < s .long
-      → record { number = m .quotient; rest = m .remainder + 1; few = ltb (s .long / 8) (s .short) } ≡ cuts-of (all-cuts s) s
-  all-of e h =
-      rw e
-      (λ i. record {
-        number = all-cuts s;
-        rest = rest i;
-        few = ltb (s .long / 8) (s .short);
-      })
-    where
-      rest : (s .long - 1) % s .short + 1 ≡ s .long - all-cuts s * s .short
-      rest = omega (arith, mod-eq-sub-div-mul (s .long - 1) (s .short), div-mul-le-self (s .long - 1) (s .short))
-
-  module _ (N : ℕ) (some : 0 < s .longs) where
-    -- all cuts where they do not reach N
-    pub all-below : {c : Cuts} → c ≡ cuts-of (all-cuts s) s → s .shorts + c .number * s .longs < N
-        → c ≡ cuts-of (min (cuts-to N s) (all-cuts s)) s
-    all-below e h =
-        rw (e, min-eq-right {n = all-cuts s} {m = cuts-to N s} (le-div-iff-mul-le some .1 (omega (arith, ap (λ (c : Cuts). c .number * s .longs) e))))
-
-    -- else fewer
-    pub fewer-cuts : N ≤ s .shorts + all-cuts s * s .longs → s .shorts < N → cuts-to N s < all-cuts s
-    fewer-cuts h l = div-lt-iff-lt-mul some .1 (omega arith)
-
-    -- where the lengths have a quotient below 8, so has the number of points that are lacking
-    pub lacking-few : 0 < s .short → s .long < s .short * 8 → N ≤ s .shorts + all-cuts s * s .longs → N - s .shorts - 1 < s .longs * 8
-    lacking-few p f h =
-        let l : all-cuts s < 8 = div-lt-iff-lt-mul p .1 (omega arith) in
-        omega (arith, mul-le-mul-right (s .longs) l)
-
-    pub to-of : {few : Bool} → few ≡ ltb (s .long / 8) (s .short) → N ≤ s .shorts + all-cuts s * s .longs → s .shorts < N
-        → record { number = cuts-to N s; rest = s .long - cuts-to N s * s .short; few = few } ≡ cuts-of (min (cuts-to N s) (all-cuts s)) s
-    to-of e h l = rw (e, min-eq-left (le-of-lt (fewer-cuts h l)))
-
--- a row that is passed, or not
-module _ (s : State) (c : Cuts) (N : ℕ) where
-  pub not-below : N ≤ s .shorts + c .number * s .longs → false ≡ is-passed s c N
-  unfolding is-passed
-  not-below h = rw (le-leb N (s .shorts + c .number * s .longs) h)
-
-  pub all-below-passes : s .shorts + c .number * s .longs < N → ltb (c .rest) (s .short) ≡ is-passed s c N
-  unfolding is-passed
-  all-below-passes h = rw (lt-leb N (s .shorts + c .number * s .longs) h)
-
-module _ (odd : Bool) (N : ℕ) (s : State) {c : Cuts} (e : c ≡ cuts-of (all-cuts s) s) where
-  pub fine-passes : is-passed s c N ≡ true → in-next-row N (cut-state odd (all-cuts s) s) ≡ fine-next odd N s
-  unfolding fine-next
-  fine-passes h = rw (← e, h)
-
-  pub fine-ends : is-passed s c N ≡ false → cut-state odd (min (cuts-to N s) (all-cuts s)) s ≡ fine-next odd N s
-  unfolding fine-next
-  fine-ends h = rw (← e, h)
+-- and so are those that end a fine search
+pub last-able : (N : ℕ) {s : State} → Steppable s → Cuttable (last-cuts N s) s
+last-able N {s} p = fewer (min-le-right (cuts-to N s) (all-cuts s)) (all-able p)
 
 -- ---- where the argument and the distance go
 
--- all cuts are enough for every move
-pub moves-few : (s : State) → 0 < s .short → s .distance < s .long → {m : Division} → m ≡ division (s .distance) (s .short) → m .quotient ≤ all-cuts s
-moves-few s h l e = rw e (le-div-iff-mul-le h .1 (omega (arith, div-mul-le-self (s .distance) (s .short))))
-
 module _ (j : ℕ) (s : State) where
-  module _ {m : Division} (e : m ≡ division (s .distance) (s .short)) where
-    -- cuts from the left, as far as there is room
-    pub moved-left : m .quotient ≤ j → record { argument = s .argument + m .quotient * s .longs; distance = m .remainder } ≡ carried-left j s
-    unfolding carried-left
-    moved-left h =
-        rw (e, min-eq-right {n = s .distance / s .short} {m = j} (rw e at h))
-        (λ i. record { argument = s .argument + s .distance / s .short * s .longs; distance = mod-eq-sub-div-mul (s .distance) (s .short) i })
-
-    -- or all of them
-    pub moved-all-left : j < m .quotient → record { argument = s .argument + j * s .longs; distance = s .distance - j * s .short } ≡ carried-left j s
-    unfolding carried-left
-    moved-all-left h = rw (min-eq-left {n = j} {m = s .distance / s .short} (le-of-lt (rw e at h)))
+  -- as far as the cuts from the left go, where they are as many as there is room for
+  pub moved-left : s .distance / s .short ≤ j
+      → record { argument = s .argument + s .distance / s .short * s .longs; distance = s .distance % s .short } ≡ carried-left j s
+  unfolding carried-left
+  moved-left h =
+      rw (min-eq-right {n = s .distance / s .short} {m = j} h)
+      (λ i. record { argument = s .argument + s .distance / s .short * s .longs; distance = mod-eq-sub-div-mul (s .distance) (s .short) i })
 
   -- a short gap is not cut from the right
   pub short-gap : s .longs ≤ s .argument → shown s ≡ carried-right j s
@@ -129,19 +68,205 @@ module _ (j : ℕ) (s : State) where
     unfolding carried-right
     moved h = rw (lt-leb (s .longs) (s .argument) gap, le-ltb (s .distance) (s .long - j * s .short) h)
 
-    -- the same by a division, and with fewer cuts than there are
-    module _ (over : s .long - j * s .short ≤ s .distance) {rest : ℕ} {m : Division} (r : rest ≡ s .long - j * s .short)
-        (e : m ≡ division (s .distance - rest) (s .short)) where
-      pub moved-right : record { argument = s .argument + (s .shorts + j * s .longs - m .quotient * s .longs); distance = m .remainder } ≡ carried-right j s
-      moved-right =
-          rw (e, r)
-          (λ i. record {
-            argument = s .argument + (s .shorts + j * s .longs - (s .distance - (s .long - j * s .short)) / s .short * s .longs);
-            distance = mod-eq-sub-div-mul (s .distance - (s .long - j * s .short)) (s .short) i;
-          })
-          ∙ moved over
+    -- the same by a division
+    pub moved-right : {rest : ℕ} → rest ≡ s .long - j * s .short → rest ≤ s .distance
+        → record {
+          argument = s .argument + (s .shorts + j * s .longs - (s .distance - rest) / s .short * s .longs);
+          distance = (s .distance - rest) % s .short;
+        } ≡ carried-right j s
+    moved-right r h =
+        rw r
+        (λ i. record {
+          argument = s .argument + (s .shorts + j * s .longs - (s .distance - (s .long - j * s .short)) / s .short * s .longs);
+          distance = mod-eq-sub-div-mul (s .distance - (s .long - j * s .short)) (s .short) i;
+        })
+        ∙ moved (rw r at h)
 
-      pub back-few : Cuttable j s → m .quotient * s .longs ≤ j * s .longs
-      back-few c =
-          rw (e, r)
-          (mul-le-mul-right (s .longs) (le-of-lt (div-lt-iff-lt-mul (c .short-some) .1 (omega (arith, c .within, c .left)))))
+  -- no more cuts come back than are made
+  pub back-few : Cuttable j s → (s .distance - (s .long - j * s .short)) / s .short * s .longs ≤ j * s .longs
+  back-few c =
+      mul-le-mul-right (s .longs) (div-le-of-le-mul (s .short) {n = j} (omega (arith, c .within, c .room)))
+
+-- all cuts are enough for every move from the left
+pub moves-few : (s : State) → 0 < s .short → s .distance < s .long → s .distance / s .short ≤ all-cuts s
+moves-few s h l = le-div-iff-mul-le h .1 (omega (arith, div-mul-le-self (s .distance) (s .short)))
+
+-- ---- whether a row is the last
+
+module _ (s : State) (some : 0 < s .short) where
+  -- one that leaves nothing is
+  pub ends-exact : s .short ≤ s .long → s .long % s .short ≡ 0 → (N : ℕ) → ends N s ≡ true
+  unfolding ends
+  ends-exact falls e N = either (leb N (s .shorts + all-cuts s * s .longs + s .longs))
+    where
+      either : (b : Bool) → b || eqb (s .short) (s .long - all-cuts s * s .short) ≡ true
+      either true = refl
+      either false = eq-eqb (s .short) (s .long - all-cuts s * s .short) (sym (rest-exact (s .long) (s .short) some falls e))
+
+  -- another is where it reaches N
+  pub ends-inexact : 0 < s .long % s .short → (N : ℕ) → ends N s ≡ leb N (s .shorts + all-cuts s * s .longs + s .longs)
+  unfolding ends
+  ends-inexact h N =
+      rw (ne-eqb (s .short) (s .long - all-cuts s * s .short) (λ e. omega (arith, e, rest-inexact (s .long) (s .short) some h, mod-lt (s .long) some)))
+      (either (leb N (s .shorts + all-cuts s * s .longs + s .longs)))
+    where
+      either : (b : Bool) → b || false ≡ b
+      either true = refl
+      either false = refl
+
+  -- so that one after which the search goes on leaves something
+  pub leaves-some : s .short ≤ s .long → (N : ℕ) → ends N s ≡ false → 0 < s .long % s .short
+  leaves-some falls N h =
+      ⊎-elim (λ e. absurd (false≢true (sym h ∙ ends-exact falls e N))) (λ p. p) (eq-zero-or-pos (s .long % s .short))
+
+-- ---- a row as it is divided
+
+pub divided : (s : State) → record { number = s .long / s .short; rest = s .long % s .short } ≡ cuts-of (quotient s) s
+divided s = λ i. record { number = quotient s; rest = mod-eq-sub-div-mul (s .long) (s .short) i }
+
+module _ {s : State} (p : Steppable s) {c : Cuts} (e : c ≡ cuts-of (quotient s) s) where
+  rest-of : c .rest ≡ s .long % s .short
+  rest-of = rw e (sym (mod-eq-sub-div-mul (s .long) (s .short)))
+
+  number-of : c .number ≡ quotient s
+  number-of = ap (λ (x : Cuts). x .number) e
+
+  -- it can be cut so often
+  pub row-cutting : Cutting c s
+  row-cutting = cutting e (p .whole)
+
+  pub number-some : 1 ≤ c .number
+  number-some = omega (arith, number-of, quotient-positive (s .long) (s .short) (p .whole .short-some) (p .falls))
+
+  -- the last row
+  module _ (h : c .rest ≡ 0) where
+    pub last-number : c .number - 1 ≡ all-cuts s
+    last-number = omega (arith, number-of, cuts-exact (s .long) (s .short) (p .whole .short-some) (p .falls) (sym rest-of ∙ h))
+
+    pub last-ends : (N : ℕ) → true ≡ ends N s
+    last-ends N = sym (ends-exact s (p .whole .short-some) (p .falls) (sym rest-of ∙ h) N)
+
+  -- any other
+  module _ (h : 0 < c .rest) where
+    pub row-number : c .number ≡ all-cuts s
+    row-number = omega (arith, number-of, cuts-inexact (s .long) (s .short) (p .whole .short-some) (omega (arith, rest-of)))
+
+    pub row-all : c ≡ cuts-of (all-cuts s) s
+    row-all = rw (sym number-of ∙ row-number) at e
+
+    pub row-ends : (N : ℕ) → leb N (s .shorts + c .number * s .longs + s .longs) ≡ ends N s
+    row-ends N = rw row-number (sym (ends-inexact s (p .whole .short-some) (omega (arith, rest-of)) N))
+
+  -- one after which the search goes on
+  pub on-all : (N : ℕ) → ends N s ≡ false → c ≡ cuts-of (all-cuts s) s
+  on-all N h = row-all (omega (arith, rest-of, leaves-some s (p .whole .short-some) (p .falls) N h))
+
+-- ---- the steps
+
+-- the regular step
+pub regular-by : (odd : Bool) (N : ℕ) (s : State) {c : Cuts} {m : Moved} {done : Bool} → c ≡ cuts-of (all-cuts s) s
+    → m ≡ carried odd (all-cuts s) s → done ≡ ends N s → in-next-row done (row-of s c m) ≡ regular-next odd N s
+unfolding regular-next cut-state
+regular-by odd N s e f g = rw (e, f, g)
+
+-- the end of a fine search, picked number by number
+pub ended : (s : State) (c : Cuts) (m : Moved) (whole : Bool)
+    → record {
+      long = cond whole (s .short) (c .rest);
+      short = cond whole (c .rest) (s .short);
+      longs = cond whole (s .shorts + c .number * s .longs) (s .longs);
+      shorts = cond whole (s .longs) (s .shorts + c .number * s .longs);
+      argument = m .argument;
+      distance = m .distance;
+      part = cond whole 0 (c .number);
+      index = cond whole (suc (s .index)) (s .index);
+      done = true;
+    } ≡ cond whole (in-next-row true (row-of s c m)) (row-of s c m)
+ended s c m true = refl
+ended s c m false = refl
+
+module _ (N : ℕ) (s : State) where
+  -- a row that is not passed: its configurations reach N, or it is the last
+  abbrev pub Stays : Type 0
+  Stays = (N ≤ s .shorts + all-cuts s * s .longs) ⊎ (s .long % s .short ≡ 0)
+
+  -- or all of them are below N, and there is another row
+  abbrev pub Passes : Type 0
+  Passes = (s .shorts + all-cuts s * s .longs < N) × (0 < s .long % s .short)
+
+  pub passes-or-stays : Passes ⊎ Stays
+  passes-or-stays =
+      by-cases (decLe N (s .shorts + all-cuts s * s .longs)) (λ n. inr (inl n))
+      (λ n. ⊎-elim (λ e. inr (inr e)) (λ p. inl (omega arith, p)) (eq-zero-or-pos (s .long % s .short)))
+
+  module _ (some : 0 < s .short) (falls : s .short ≤ s .long) where
+    pub is-passed-true : Passes → is-passed N s ≡ true
+    unfolding is-passed
+    is-passed-true p =
+        rw (
+          lt-leb N (s .shorts + all-cuts s * s .longs) (p .0),
+          lt-ltb (s .long - all-cuts s * s .short) (s .short) (omega (arith, rest-inexact (s .long) (s .short) some (p .1), mod-lt (s .long) some)),
+        )
+
+    pub is-passed-false : Stays → is-passed N s ≡ false
+    unfolding is-passed
+    is-passed-false =
+        ⊎-elim (λ n. rw (le-leb N (s .shorts + all-cuts s * s .longs) n))
+        (λ e. rw (le-ltb (s .long - all-cuts s * s .short) (s .short) (omega (arith, rest-exact (s .long) (s .short) some falls e)))
+        (either (leb N (s .shorts + all-cuts s * s .longs))))
+      where
+        either : (b : Bool) → cond b false false ≡ false
+        either true = refl
+        either false = refl
+
+-- the cuts of a fine step that ends the search
+module _ (N : ℕ) (s : State) (u : Unreached N s) where
+  -- the configuration before them is below N
+  pub before-below : s .shorts + last-cuts N s * s .longs < N
+  before-below =
+      omega (
+        arith,
+        u .below,
+        div-mul-le-self (N - s .shorts - 1) (s .longs),
+        mul-le-mul-right (s .longs) (min-le-left (cuts-to N s) (all-cuts s)),
+      )
+
+  -- in a row that is passed they are all
+  pub last-all : Passes N s → last-cuts N s ≡ all-cuts s
+  last-all p = min-eq-right {n = all-cuts s} {m = cuts-to N s} (le-div-iff-mul-le (u .longs-some) .1 (omega (arith, p .0)))
+
+  -- in another there are more, or it is the last
+  pub fewer-or-last : Stays N s → (last-cuts N s < all-cuts s) ⊎ ((last-cuts N s ≡ all-cuts s) × (s .long % s .short ≡ 0))
+  fewer-or-last =
+      ⊎-elim (λ n. inl (lt-of-mul-lt-mul-right (s .longs) (omega (arith, n, before-below))))
+      (λ z. ⊎-elim (λ e. inr (e, z)) inl (eq-or-lt-of-le (min-le-right (cuts-to N s) (all-cuts s))))
+
+module _ (N : ℕ) (s : State) (u : Unreached N s) (some : 0 < s .short) (falls : s .short ≤ s .long) where
+  -- in a row that is not passed they are fewer than the quotient
+  pub in-row : Stays N s → last-cuts N s < quotient s
+  in-row t =
+      ⊎-elim (λ e. omega (arith, min-le-right (cuts-to N s) (all-cuts s), cuts-exact (s .long) (s .short) some falls e))
+      (λ h. ⊎-elim (λ l. omega (arith, l, cuts-inexact (s .long) (s .short) some h)) (λ e. absurd (omega (arith, e .1, h))) (fewer-or-last N s u t))
+      (eq-zero-or-pos (s .long % s .short))
+
+  module _ (odd : Bool) where
+    -- the fine step is the regular one where the search goes on
+    pub fine-on : ends N s ≡ false → regular-next odd N s ≡ fine-next odd N s
+    unfolding fine-next
+    fine-on h =
+        let p = leaves-some s some falls N h in
+        rw (is-passed-true N s some falls (omega (arith, leb-false N (s .shorts + all-cuts s * s .longs + s .longs) (sym (ends-inexact s some p N) ∙ h)), p))
+
+    -- and else the last cuts, which are those of the whole row where there are as many as the quotient
+    pub fine-ends : ends N s ≡ true
+        → cond (eqb (last-cuts N s) (quotient s)) (in-next-row true (cut-state odd (last-cuts N s) s)) (cut-state odd (last-cuts N s) s) ≡ fine-next odd N s
+    unfolding fine-next regular-next
+    fine-ends h =
+        ⊎-elim
+        (λ p. rw (
+          is-passed-true N s some falls p,
+          eq-eqb (last-cuts N s) (quotient s) (last-all N s u p ∙ cuts-inexact (s .long) (s .short) some (p .1)),
+          last-all N s u p,
+          h,
+        ))
+        (λ t. rw (is-passed-false N s some falls t, ne-eqb (last-cuts N s) (quotient s) (λ e. omega (arith, e, in-row t)))) (passes-or-stays N s)

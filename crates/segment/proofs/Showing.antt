@@ -19,7 +19,7 @@ use Rattle.expansion.proofs.Unrolling.{Rows, expansion-unrolled, some-row}
 use Rattle.expansion.proofs.Unrolling.Rows.{end, next}
 use Rattle.expansion.proofs.Regular.{relabelled, regular-next, regular-end, regular-many}
 use Rattle.expansion.proofs.ConfigurationLaws.{regular-right, fine-right, regular-ascends, fine-ascends}
-use Rattle.segment.specs.Segment.{Segment, Accepted, residue, Hard}
+use Rattle.segment.specs.Segment.{Segment, Accepted, residue}
 use Rattle.segment.specs.Search.{Search, configurations-of, reached-in, reached, argument, distance}
 use Rattle.segment.specs.Search.Search.{regular, fine}
 use Rattle.segment.specs.Answer.{verdict-at}

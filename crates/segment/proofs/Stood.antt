@@ -76,9 +76,8 @@ module _ {s : Segment} {odd : Bool} {t : State} (w : Stood s odd t) where
       record { stands = c .stands; shows = c .shows }
 
   -- and so does the way to the next row
-  pub turned-stood : (N : ℕ) → Stood s (not odd) (in-next-row N t)
-  unfolding in-next-row
-  turned-stood N = record { stands = turned (w .stands); shows = w .shows }
+  pub turned-stood : (done : Bool) → Stood s (not odd) (in-next-row done t)
+  turned-stood done = record { stands = turned (w .stands); shows = w .shows }
 
   -- there are no more points than the modulus
   pub points-fit : points t ≤ s .modulus

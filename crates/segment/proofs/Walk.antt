@@ -88,11 +88,6 @@ row-few {t = t} h r =
       fib-mono {n = 30} {k = suc (t .index)} (omega arith),
     )))
 
--- so a search that has gone through 29 is done
-pub walk-spent : {k : Search} {s : Segment} {odd : Bool} {t : State} → s .count ≤ 1048576 → Walk k s odd t → 29 ≤ t .index → At-end k s t
-walk-spent h (at-end f) l = f
-walk-spent {t = t} h (at-row r) l = let f = row-few h r in absurd (omega arith)
-
 -- ---- the start
 
 -- a step of 0 has one configuration, of one point
@@ -173,3 +168,15 @@ pub record Searching (k : Search) (s : Segment) (odd : Bool) (t : State) : Type 
 
 pub searching-fits : {k : Search} {s : Segment} {odd : Bool} {t : State} → Searching k s odd t → points t < 2 ^ 64
 searching-fits w = omega (arith, walk-fits (w .walk), w .accepted .modulus-high)
+
+-- the same where it is not done, with a row to go through next
+pub record Going (k : Search) (s : Segment) (odd : Bool) (t : State) : Type 0 where
+  pub accepted : Accepted s
+  pub row : At-row k s odd t
+
+pub still-going : {k : Search} {s : Segment} {odd : Bool} {t : State} → Searching k s odd t → t .done ≡ false → Going k s odd t
+still-going w e = record { accepted = w .accepted; row = walk-going (w .walk) e }
+
+-- the steps are not spent
+pub going-few : {k : Search} {s : Segment} {odd : Bool} {t : State} → Going k s odd t → t .index < 29
+going-few g = row-few (g .accepted .count-high) (g .row)

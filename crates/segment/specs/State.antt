@@ -2,18 +2,14 @@
 -- proofs/Walk.antt and proofs/Steps.antt. Assumes nothing: these are definitions.
 use mathlib.Core.Path.{_≡_}
 use mathlib.Core.Bool.{Bool, true, false, _||_, cond}
-use Prim.Native.Nat.{ℕ, suc, _+_, _-_, _*_, _/_, _%_, _^_, _<_, min}
+use Prim.Native.Nat.{ℕ, suc, _+_, _-_, _*_, _/_, _^_, _≤_, _<_, min}
 use lib.Dec.{eqb, leb, ltb}
 use Rattle.segment.specs.Answer.{verdict-at}
 use Rattle.segment.specs.declared.Regular.{Regular}
 use Rattle.segment.specs.declared.Fine.{Fine}
-use Rattle.segment.specs.declared.quotient.Division.{Division}
 use Rattle.segment.specs.declared.state.State.{State}
 use Rattle.segment.specs.declared.state.Cuts.{Cuts}
 use Rattle.segment.specs.declared.state.Moved.{Moved}
-
-abbrev pub division : (a b : ℕ) → Division
-division a b = record { quotient = a / b; remainder = a % b }
 
 -- how many points there are
 abbrev pub points : State → ℕ
@@ -36,7 +32,11 @@ first-state M a b N =
 
 -- ---- cuts
 
--- how often the long gaps can be cut with something left
+-- how often the short length goes into the long one
+abbrev pub quotient : State → ℕ
+quotient s = s .long / s .short
+
+-- how often the long gaps can be cut with something left: as often, or once less where that would leave nothing
 abbrev pub all-cuts : State → ℕ
 all-cuts s = (s .long - 1) / s .short
 
@@ -44,15 +44,18 @@ all-cuts s = (s .long - 1) / s .short
 abbrev pub cuts-to : (N : ℕ) → State → ℕ
 cuts-to N s = (N - s .shorts - 1) / s .longs
 
--- so many cuts, what they leave of a long gap, and whether the lengths have a quotient below 8
-abbrev pub cuts-of : (number : ℕ) → State → Cuts
-cuts-of j s = record { number = j; rest = s .long - j * s .short; few = ltb (s .long / 8) (s .short) }
+-- as many, but at most all
+abbrev pub last-cuts : (N : ℕ) → State → ℕ
+last-cuts N s = min (cuts-to N s) (all-cuts s)
 
--- so many cuts leave something, and the numbers that they make are below 2^64
+-- so many cuts, and what they leave of a long gap
+abbrev pub cuts-of : (number : ℕ) → State → Cuts
+cuts-of j s = record { number = j; rest = s .long - j * s .short }
+
+-- there is room for so many cuts, and the numbers that they make are below 2^64
 pub record Cuttable (cuts : ℕ) (s : State) : Type 0 where
   pub short-some : 0 < s .short
-  pub short-small : s .short < 2 ^ 62
-  pub left : cuts * s .short < s .long
+  pub room : cuts * s .short ≤ s .long
   pub within : s .distance < s .long
   pub fits : s .argument + (s .longs + s .shorts + cuts * s .longs) < 2 ^ 64
 
@@ -60,17 +63,16 @@ pub record Cuttable (cuts : ℕ) (s : State) : Type 0 where
 pub record Cutting (c : Cuts) (s : State) : Type 0 where
   pub able : Cuttable (c .number) s
   pub rest-is : c .rest ≡ s .long - c .number * s .short
-  pub few-is : c .few ≡ true → s .long < s .short * 8
 
--- all cuts can be made, and another row fits the budget
+-- as many cuts as the quotient can be made, one at least, and another row fits the budget
 pub record Steppable (s : State) : Type 0 where
-  pub all : Cuttable (all-cuts s) s
+  pub whole : Cuttable (quotient s) s
+  pub falls : s .short ≤ s .long
   pub row : s .index < 29
 
 -- N is not reached
 pub record Unreached (N : ℕ) (s : State) : Type 0 where
   pub longs-some : 0 < s .longs
-  pub longs-small : s .longs < 2 ^ 62
   pub below : s .shorts < N
 
 -- ---- the argument and the distance
@@ -118,9 +120,9 @@ row-of s c m =
 unfoldable pub cut-state : (odd : Bool) → (cuts : ℕ) → State → State
 cut-state odd j s = row-of s (cuts-of j s) (carried odd j s)
 
--- on to the next row, where what is left of the long gaps is the short length: done where N points are reached, or where the lengths are equal
-unfoldable pub in-next-row : (N : ℕ) → State → State
-in-next-row N s =
+-- on to the next row, where what is left of the long gaps is the short length
+abbrev pub in-next-row : (done : Bool) → State → State
+in-next-row done s =
     record {
       long = s .short;
       short = s .long;
@@ -130,22 +132,24 @@ in-next-row N s =
       distance = s .distance;
       part = 0;
       index = suc (s .index);
-      done = leb N (s .shorts + s .longs) || eqb (s .short) (s .long);
+      done = done;
     }
+
+-- all cuts of a row end a search: they reach N points, or they leave gaps of one length, as many as the period
+unfoldable pub ends : (N : ℕ) → State → Bool
+ends N s = leb N (s .shorts + all-cuts s * s .longs + s .longs) || eqb (s .short) (s .long - all-cuts s * s .short)
 
 -- the regular step: all cuts of a row
 unfoldable pub regular-next : (odd : Bool) → (N : ℕ) → State → State
-regular-next odd N s = in-next-row N (cut-state odd (all-cuts s) s)
+regular-next odd N s = in-next-row (ends N s) (cut-state odd (all-cuts s) s)
 
 -- every configuration of the row is below N, and there is a row after it
-unfoldable pub is-passed : State → (all : Cuts) → (N : ℕ) → Bool
-is-passed s c N = cond (leb N (s .shorts + c .number * s .longs)) false (ltb (c .rest) (s .short))
+unfoldable pub is-passed : (N : ℕ) → State → Bool
+is-passed N s = cond (leb N (s .shorts + all-cuts s * s .longs)) false (ltb (s .long - all-cuts s * s .short) (s .short))
 
 -- the fine step: all cuts of a row that is passed, else those that reach N, at most all
 unfoldable pub fine-next : (odd : Bool) → (N : ℕ) → State → State
-fine-next odd N s =
-    cond (is-passed s (cuts-of (all-cuts s) s) N) (in-next-row N (cut-state odd (all-cuts s) s))
-    (cut-state odd (min (cuts-to N s) (all-cuts s)) s)
+fine-next odd N s = cond (is-passed N s) (regular-next odd N s) (cut-state odd (last-cuts N s) s)
 
 -- ---- the end
 

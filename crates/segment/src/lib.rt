@@ -6,7 +6,6 @@ ghost use Rattle.segment.specs.Segment.{segment, refusal};
 ghost use Rattle.segment.specs.Answer.{regular-answer, fine-answer, verdict-at};
 ghost use Rattle.segment.specs.State.{points, regular-shown-at, fine-shown-at};
 
-mod quotient;
 mod state;
 
 use state::State;
@@ -73,15 +72,18 @@ pub fn regular_search(modulus: u64, step: u64, start: u64, count: u64, window: u
         return RegularAnswer::Refused(number);
     }
     let mut state = first(modulus, step, start, count);
+    if state.done {
+        return RegularAnswer::Shown(show_regular(state, window));
+    }
     while state.index < BUDGET {
-        if state.done {
-            return RegularAnswer::Shown(show_regular(state, window));
-        }
         state = regular_even(state, count);
         if state.done {
             return RegularAnswer::Shown(show_regular(state, window));
         }
         state = regular_odd(state, count);
+        if state.done {
+            return RegularAnswer::Shown(show_regular(state, window));
+        }
     }
     // No accepted segment comes here: all are done within the budget.
     RegularAnswer::Shown(show_regular(state, window))
@@ -96,15 +98,18 @@ pub fn fine_search(modulus: u64, step: u64, start: u64, count: u64, window: u64)
         return FineAnswer::Refused(number);
     }
     let mut state = first(modulus, step, start, count);
+    if state.done {
+        return FineAnswer::Shown(show_fine(state, window));
+    }
     while state.index < BUDGET {
-        if state.done {
-            return FineAnswer::Shown(show_fine(state, window));
-        }
         state = fine_even(state, count);
         if state.done {
             return FineAnswer::Shown(show_fine(state, window));
         }
         state = fine_odd(state, count);
+        if state.done {
+            return FineAnswer::Shown(show_fine(state, window));
+        }
     }
     // No accepted segment comes here: all are done within the budget.
     FineAnswer::Shown(show_fine(state, window))

@@ -3,12 +3,14 @@
 // The multiples of the step by the arguments below a configuration's count cut the circle of length modulus into gaps of at most two
 // lengths (000, Property 1). A row of the expansion cuts every long gap by the short length, from one end: the left one in even rows, the right one
 // in odd rows. The argument and the distance of the point before the start move along where their own gap is cut.
+//
+// Only the end of a search is a branch. Another one that depends on the numbers of a row could not be foreseen, and would cost more than
+// a division: so a row divides whether or not it needs to, and picks what it needs of the results.
 ghost use mathlib.Core.Path.{_≡_};
-ghost use Prim.Native.Nat.{_<_, min};
-ghost use mathlib.Core.Bool.{true, false, _||_};
+ghost use mathlib.Core.Bool.{true, false, _||_, cond};
+ghost use Prim.Native.Nat.{_-_, _<_, min};
 ghost use lib.Dec.{eqb, leb};
-ghost use Rattle.segment.specs.State.{first-state, all-cuts, cuts-to, cuts-of, Cutting, shown, carried-left, carried-right, is-passed, row-of, in-next-row, Steppable, Unreached, regular-next, fine-next};
-use crate::quotient::divide;
+ghost use Rattle.segment.specs.State.{first-state, quotient, all-cuts, last-cuts, cuts-of, Cuttable, Cutting, shown, carried-left, carried-right, row-of, in-next-row, ends, Steppable, Unreached, regular-next, fine-next};
 
 // longs gaps of length long and shorts gaps of length short, after part cuts of the row index; the argument of least residue below the count
 // longs + shorts, and its residue, the distance. Done: this is the configuration that the search reaches.
@@ -24,11 +26,10 @@ pub struct State {
     pub done: bool,
 }
 
-// How often a row's long gaps are cut, what that leaves of them, and whether the lengths of the row have a quotient below 8.
+// How often a row's long gaps are cut, and what that leaves of them.
 struct Cuts {
     number: u64,
     rest: u64,
-    few: bool,
 }
 
 // An argument and its residue.
@@ -69,31 +70,43 @@ pub fn regular_even(state: State, count: u64) -> State
     requires { ⌜ Steppable state ⌝ }
     ensures { λ r. ⌜ r ≡ regular-next false count state ⌝ }
 {
-    let all = cuts_all(state);
-    next_row(state, all, carry_all_left(state, all), count)
+    let row = divide(state);
+    let moved = carry_all_left(state);
+    if row.rest == 0 {
+        let all = cut(state, row.number - 1);
+        return next_row(state, all, moved, true);
+    }
+    next_row(state, row, moved, reaches(state, row, count))
 }
 
 pub fn regular_odd(state: State, count: u64) -> State
     requires { ⌜ Steppable state ⌝ }
     ensures { λ r. ⌜ r ≡ regular-next true count state ⌝ }
 {
-    let all = cuts_all(state);
-    next_row(state, all, carry_right(state, all), count)
+    let row = divide(state);
+    if row.rest == 0 {
+        let all = cut(state, row.number - 1);
+        return next_row(state, all, carry_right(state, all), true);
+    }
+    let moved = carry_right(state, row);
+    next_row(state, row, moved, reaches(state, row, count))
 }
 
-// The fine step does the same where every configuration of the row is below the count and the row is not the last, and else goes to the first
-// that is not below; in the last row to the last one at most.
+// The fine step does the same where the search goes on after it, and else goes to the first configuration that is not below the count; in the
+// last row to the last one at most.
 pub fn fine_even(state: State, count: u64) -> State
     requires { ⌜ Steppable state ⌝ }
     requires { ⌜ Unreached count state ⌝ }
     ensures { λ r. ⌜ r ≡ fine-next false count state ⌝ }
 {
-    let all = cuts_all(state);
-    if passes(state, all, count) {
-        return next_row(state, all, carry_all_left(state, all), count);
+    let row = divide(state);
+    let moved = carry_all_left(state);
+    if ends(state, row, count) {
+        let cuts = cut(state, cuts_to(state, row, count));
+        let last = carry_left(state, cuts);
+        return end(state, cuts, last, cuts.number == row.number);
     }
-    let cuts = cuts_to(state, all, count);
-    end(state, cuts, carry_left(state, cuts))
+    next_row(state, row, moved, false)
 }
 
 pub fn fine_odd(state: State, count: u64) -> State
@@ -101,55 +114,83 @@ pub fn fine_odd(state: State, count: u64) -> State
     requires { ⌜ Unreached count state ⌝ }
     ensures { λ r. ⌜ r ≡ fine-next true count state ⌝ }
 {
-    let all = cuts_all(state);
-    if passes(state, all, count) {
-        return next_row(state, all, carry_right(state, all), count);
+    let row = divide(state);
+    let moved = carry_right(state, row);
+    if ends(state, row, count) {
+        let cuts = cut(state, cuts_to(state, row, count));
+        let last = carry_right(state, cuts);
+        return end(state, cuts, last, cuts.number == row.number);
     }
-    let cuts = cuts_to(state, all, count);
-    end(state, cuts, carry_right(state, cuts))
+    next_row(state, row, moved, false)
 }
 
-// As many cuts as leave something of a long gap.
-fn cuts_all(state: State) -> Cuts
+// As many cuts as the quotient of the lengths, which may leave nothing of a long gap.
+fn divide(state: State) -> Cuts
     requires { ⌜ Steppable state ⌝ }
-    ensures { λ r. ⌜ r ≡ cuts-of (all-cuts state) state ⌝ }
+    ensures { λ r. ⌜ r ≡ cuts-of (quotient state) state ⌝ }
 {
-    let few = state.long / 8 < state.short;
-    let all = divide(state.long - 1, state.short, few);
     Cuts {
-        number: all.quotient,
-        rest: all.remainder + 1,
-        few: few,
+        number: state.long / state.short,
+        rest: state.long % state.short,
     }
 }
 
-// Whether every configuration of the row is below the count, and there is a row after it.
-fn passes(state: State, all: Cuts, count: u64) -> bool
-    requires { ⌜ Cutting all state ⌝ }
-    ensures { λ r. ⌜ r ≡ is-passed state all count ⌝ }
+// So many cuts.
+fn cut(state: State, number: u64) -> Cuts
+    requires { ⌜ Cuttable number state ⌝ }
+    ensures { λ r. ⌜ r ≡ cuts-of number state ⌝ }
 {
-    if count <= state.shorts + all.number * state.longs {
-        return false;
-    }
-    all.rest < state.short
-}
-
-// As many cuts as reach the count, at most all.
-fn cuts_to(state: State, all: Cuts, count: u64) -> Cuts
-    requires { ⌜ Steppable state ⌝ }
-    requires { ⌜ Unreached count state ⌝ }
-    requires { ⌜ all ≡ cuts-of (all-cuts state) state ⌝ }
-    ensures { λ r. ⌜ r ≡ cuts-of (min (cuts-to count state) (all-cuts state)) state ⌝ }
-{
-    if state.shorts + all.number * state.longs < count {
-        return all;
-    }
-    let number = divide(count - state.shorts - 1, state.longs, all.few).quotient;
     Cuts {
         number: number,
         rest: state.long - number * state.short,
-        few: all.few,
     }
+}
+
+// Whether the search is done after all cuts of the row.
+fn ends(state: State, row: Cuts, count: u64) -> bool
+    requires { ⌜ Steppable state ⌝ }
+    requires { ⌜ row ≡ cuts-of (quotient state) state ⌝ }
+    ensures { λ r. ⌜ r ≡ ends count state ⌝ }
+{
+    if row.rest == 0 {
+        return true;
+    }
+    reaches(state, row, count)
+}
+
+// The same where the row leaves something of a long gap, and so is not the last: whether its cuts make as many points as the count.
+fn reaches(state: State, row: Cuts, count: u64) -> bool
+    requires { ⌜ Steppable state ⌝ }
+    requires { ⌜ row ≡ cuts-of (quotient state) state ⌝ }
+    requires { ⌜ 0 < row .rest ⌝ }
+    ensures { λ r. ⌜ r ≡ ends count state ⌝ }
+{
+    count <= state.shorts + row.number * state.longs + state.longs
+}
+
+// As many cuts as reach the count, at most as many as leave something of a long gap.
+fn cuts_to(state: State, row: Cuts, count: u64) -> u64
+    requires { ⌜ Steppable state ⌝ }
+    requires { ⌜ row ≡ cuts-of (quotient state) state ⌝ }
+    requires { ⌜ Unreached count state ⌝ }
+    ensures { λ r. ⌜ r ≡ last-cuts count state ⌝ }
+{
+    lesser(
+        (count - state.shorts - 1) / state.longs,
+        all_cuts(state, row),
+    )
+}
+
+// As many cuts as leave something of a long gap.
+fn all_cuts(state: State, row: Cuts) -> u64
+    requires { ⌜ Steppable state ⌝ }
+    requires { ⌜ row ≡ cuts-of (quotient state) state ⌝ }
+    ensures { λ r. ⌜ r ≡ all-cuts state ⌝ }
+{
+    if row.rest == 0 {
+        return row.number - 1;
+    }
+    row.number
 }
 
 // Cuts from the left come between the shown argument and the start one by one, as long as there is room for a short length. In a short gap
@@ -158,50 +199,43 @@ fn carry_left(state: State, cuts: Cuts) -> Moved
     requires { ⌜ Cutting cuts state ⌝ }
     ensures { λ r. ⌜ r ≡ carried-left (cuts .number) state ⌝ }
 {
-    let moves = divide(state.distance, state.short, cuts.few);
-    if moves.quotient <= cuts.number {
-        return Moved {
-            argument: state.argument + moves.quotient * state.longs,
-            distance: moves.remainder,
-        };
-    }
+    let moves = lesser(cuts.number, state.distance / state.short);
     Moved {
-        argument: state.argument + cuts.number * state.longs,
-        distance: state.distance - cuts.number * state.short,
+        argument: state.argument + moves * state.longs,
+        distance: state.distance - moves * state.short,
     }
 }
 
 // All cuts of a row are enough for every move.
-fn carry_all_left(state: State, all: Cuts) -> Moved
-    requires { ⌜ Cutting all state ⌝ }
-    requires { ⌜ all .number ≡ all-cuts state ⌝ }
-    ensures { λ r. ⌜ r ≡ carried-left (all .number) state ⌝ }
+fn carry_all_left(state: State) -> Moved
+    requires { ⌜ Steppable state ⌝ }
+    ensures { λ r. ⌜ r ≡ carried-left (all-cuts state) state ⌝ }
 {
-    let moves = divide(state.distance, state.short, all.few);
     Moved {
-        argument: state.argument + moves.quotient * state.longs,
-        distance: moves.remainder,
+        argument: state.argument + state.distance / state.short * state.longs,
+        distance: state.distance % state.short,
     }
 }
 
 // Cuts from the right come between them only in a long gap, and only if the distance is at least what is left of it: a gap that is not cut is
-// left alone.
+// left alone. (In two tests after the division: of one test, or of one before it, the compiler makes a branch.)
 fn carry_right(state: State, cuts: Cuts) -> Moved
     requires { ⌜ Cutting cuts state ⌝ }
     ensures { λ r. ⌜ r ≡ carried-right (cuts .number) state ⌝ }
 {
+    let over = less(state.distance, cuts.rest);
+    let back = over / state.short;
+    let moved = Moved {
+        argument: state.argument + (state.shorts + cuts.number * state.longs - back * state.longs),
+        distance: over % state.short,
+    };
     if state.longs <= state.argument {
         return unmoved(state);
     }
     if state.distance < cuts.rest {
         return unmoved(state);
     }
-    let back = divide(state.distance - cuts.rest, state.short, cuts.few);
-    Moved {
-        argument: state.argument
-            + (state.shorts + cuts.number * state.longs - back.quotient * state.longs),
-        distance: back.remainder,
-    }
+    moved
 }
 
 fn unmoved(state: State) -> Moved
@@ -215,48 +249,77 @@ fn unmoved(state: State) -> Moved
 
 // The next row begins where what is left of the long gaps is shorter than the short ones. Where it is as long, there are as many points as the
 // period.
-fn next_row(state: State, cuts: Cuts, moved: Moved, count: u64) -> State
+fn next_row(state: State, cuts: Cuts, moved: Moved, done: bool) -> State
     requires { ⌜ Cutting cuts state ⌝ }
     requires { ⌜ state .index < 29 ⌝ }
-    ensures { λ r. ⌜ r ≡ in-next-row count (row-of state cuts moved) ⌝ }
+    ensures { λ r. ⌜ r ≡ in-next-row done (row-of state cuts moved) ⌝ }
 {
-    let longs = state.shorts + cuts.number * state.longs;
     State {
         long: state.short,
         short: cuts.rest,
-        longs: longs,
+        longs: state.shorts + cuts.number * state.longs,
         shorts: state.longs,
         argument: moved.argument,
         distance: moved.distance,
         part: 0,
         index: state.index + 1,
-        done: enough(count, longs + state.longs, state.short, cuts.rest),
+        done: done,
     }
 }
 
-fn enough(count: u64, points: u64, long: u64, short: u64) -> bool
-    ensures { λ r. ⌜ r ≡ leb count points || eqb long short ⌝ }
-{
-    if count <= points {
-        return true;
-    }
-    long == short
-}
-
-// A fine search ends within a row that is not passed.
-fn end(state: State, cuts: Cuts, moved: Moved) -> State
+// A fine search ends within a row, or with the whole of it at the beginning of the next. Nothing foretells which, so each number is picked.
+fn end(state: State, cuts: Cuts, moved: Moved, whole: bool) -> State
     requires { ⌜ Cutting cuts state ⌝ }
-    ensures { λ r. ⌜ r ≡ row-of state cuts moved ⌝ }
+    requires { ⌜ state .index < 29 ⌝ }
+    ensures { λ r. ⌜ r ≡ cond whole (in-next-row true (row-of state cuts moved)) (row-of state cuts moved) ⌝ }
 {
+    let shorts = state.shorts + cuts.number * state.longs;
     State {
-        long: cuts.rest,
-        short: state.short,
-        longs: state.longs,
-        shorts: state.shorts + cuts.number * state.longs,
+        long: pick(whole, state.short, cuts.rest),
+        short: pick(whole, cuts.rest, state.short),
+        longs: pick(whole, shorts, state.longs),
+        shorts: pick(whole, state.longs, shorts),
         argument: moved.argument,
         distance: moved.distance,
-        part: cuts.number,
-        index: state.index,
+        part: pick(whole, 0, cuts.number),
+        index: pick_index(whole, state.index + 1, state.index),
         done: true,
     }
+}
+
+fn pick(first: bool, a: u64, b: u64) -> u64
+    ensures { λ r. ⌜ r ≡ cond first a b ⌝ }
+{
+    if first {
+        return a;
+    }
+    b
+}
+
+fn pick_index(first: bool, a: u32, b: u32) -> u32
+    ensures { λ r. ⌜ r ≡ cond first a b ⌝ }
+{
+    if first {
+        return a;
+    }
+    b
+}
+
+fn lesser(a: u64, b: u64) -> u64
+    ensures { λ r. ⌜ r ≡ min a b ⌝ }
+{
+    if a < b {
+        return a;
+    }
+    b
+}
+
+// a - b, or 0 where b is larger.
+fn less(a: u64, b: u64) -> u64
+    ensures { λ r. ⌜ r ≡ a - b ⌝ }
+{
+    if a < b {
+        return 0;
+    }
+    a - b
 }

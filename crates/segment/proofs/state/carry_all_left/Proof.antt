@@ -1,28 +1,33 @@
 -- `segment::state::carry_all_left` meets its contract. Assumes nothing.
-use Prim.Native.Nat.{_≤_}
+use Prim.Native.Nat.{_+_, _*_, _/_, _^_, _<_}
 use native.Mathlib.Nat.{mul-le-mul-right}
 use native.Mathlib.Omega.{arith}
-use mir.Facts.{fits-le}
 use borrow.Author.Needs.{needs}
-use Rattle.segment.proofs.Carrying.{moves-few, moved-left}
+use Rattle.segment.proofs.Carrying.{all-able, moves-few, moved-left}
 use Rattle.segment.proofs.state.carry_all_left.Statement.{statement}
 use Rattle.segment.proofs.state.carry_all_left.Tie as tie
 
--- there are no more moves than cuts
-few : (c : tie.After-divide) → c .divide .result .quotient ≤ c .before .args .all .number
-few c = omega (arith, c .before .pre .1, moves-few (c .before .args .state) (omega arith) (omega arith) (c .divide .ensures .0))
+-- the moves are no more than all cuts, and fit with them
+moves-fit : (c : tie.Start) → let s = c .args .state in s .argument + s .distance / s .short * s .longs < 2 ^ 64
+moves-fit c =
+    let s = c .args .state in
+    let a = all-able (c .pre) in
+    omega (arith, a .fits, mul-le-mul-right (s .longs) (moves-few s (a .short-some) (a .within)))
 
-divide-requires : tie.Need-divide-requires
-divide-requires c κs = (search needs, λ f. let h = c .pre .0 .few-is f in omega arith)
+div-t2 : tie.Need-div-t2
+div-t2 c = search needs
 
-mul-t4 : tie.Need-mul-t4
-mul-t4 c = fits-le (mul-le-mul-right _ (few (c .before .before))) (omega arith)
+mul-t3 : tie.Need-mul-t3
+mul-t3 c = let h = moves-fit (c .before .before) in omega arith
 
-add-t5 : tie.Need-add-t5
-add-t5 c = let d = c .before .before .before in omega (arith, mul-le-mul-right (d .before .args .state .longs) (few d))
+add-t4 : tie.Need-add-t4
+add-t4 c = let h = moves-fit (c .before .before .before) in omega arith
+
+rem-t5 : tie.Need-rem-t5
+rem-t5 c = search needs
 
 returns : tie.Need-returns
-returns c = let d = c .before .before .before in moved-left _ _ (d .divide .ensures .0) (few d)
+returns c = let d = c .before .before .before .before in let a = all-able (d .pre) in moved-left _ (d .args .state) (moves-few (d .args .state) (a .short-some) (a .within))
 
 pub carry-all-left-spec : {M : Type 1} → statement M
-carry-all-left-spec = tie.close (tie.spec divide-requires mul-t4 add-t5 returns)
+carry-all-left-spec = tie.close (tie.spec div-t2 mul-t3 add-t4 rem-t5 returns)

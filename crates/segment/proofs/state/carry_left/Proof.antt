@@ -1,40 +1,44 @@
 -- `segment::state::carry_left` meets its contract. Assumes nothing.
-use native.Mathlib.Nat.{mul-le-mul-right, le-of-lt}
+use Prim.Native.Nat.{_*_, _/_, _≤_}
+use native.Mathlib.Nat.{mul-le-mul-right, min-le-left, min-le-right, div-mul-le-self}
 use native.Mathlib.Omega.{arith}
-use mir.Facts.{fits-le}
 use borrow.Author.Needs.{needs}
-use Rattle.segment.proofs.Carrying.{moved-left, moved-all-left}
+use Rattle.segment.specs.State.{carried-left}
 use Rattle.segment.proofs.state.carry_left.Statement.{statement}
 use Rattle.segment.proofs.state.carry_left.Tie as tie
 
-divide-requires : tie.Need-divide-requires
-divide-requires c κs = (search needs, λ f. let h = c .pre .few-is f in omega arith)
+-- there are no more moves than cuts
+few : (c : tie.After-lesser) → c .lesser .result ≤ c .before .before .args .cuts .number
+few c = rw (c .lesser .ensures) (min-le-left _ _)
 
-mul-t5 : tie.Need-mul-t5
-mul-t5 c = fits-le (mul-le-mul-right _ (c .before .before .if1 .taken)) (omega arith)
+-- nor than there is room for
+room : (c : tie.After-lesser) → let s = c .before .before .args .state in c .lesser .result * s .short ≤ s .distance
+room c =
+    let a = c .before .before .args in
+    let h : c .lesser .result ≤ a .state .distance / a .state .short = rw (c .lesser .ensures) (min-le-right (a .cuts .number) _) in
+    omega (arith, div-mul-le-self (a .state .distance) (a .state .short), mul-le-mul-right (a .state .short) h)
 
-add-t6 : tie.Need-add-t6
-add-t6 c = let a = c .before .before .before .before .before .before .before .args in omega (arith, mul-le-mul-right (a .state .longs) (c .before .before .before .if1 .taken))
+div-lesser : tie.Need-div-lesser
+div-lesser c = search needs
+
+lesser-requires : tie.Need-lesser-requires
+lesser-requires c κs = search needs
+
+mul-t4 : tie.Need-mul-t4
+mul-t4 c = let d = c .before in omega (arith, mul-le-mul-right (d .before .before .args .state .longs) (few d))
+
+add-t5 : tie.Need-add-t5
+add-t5 c = let d = c .before .before in omega (arith, mul-le-mul-right (d .before .before .args .state .longs) (few d))
+
+mul-t6 : tie.Need-mul-t6
+mul-t6 c = let h = room (c .before .before .before) in omega arith
+
+sub-t7 : tie.Need-sub-t7
+sub-t7 c = let h = room (c .before .before .before .before) in omega arith
 
 returns : tie.Need-returns
-returns c = moved-left _ _ (c .before .before .before .before .before .before .divide .ensures .0) (c .before .before .before .if1 .taken)
-
-mul-t7 : tie.Need-mul-t7
-mul-t7 c = search needs
-
-add-t8 : tie.Need-add-t8
-add-t8 c = search needs
-
-mul-t9 : tie.Need-mul-t9
-mul-t9 c = search needs
-
-sub-t10 : tie.Need-sub-t10
-sub-t10 c = let a = c .before .before .before .before .before .before .before .before .before .before .args in omega (arith, mul-le-mul-right (a .state .short) (le-of-lt (c .before .before .before .before .before .before .if1 .left)))
-
-returns-2 : tie.Need-returns-2
-returns-2 c = moved-all-left _ _ (c .before .before .before .before .before .before .before .before .before .divide .ensures .0) (c .before .before .before .before .before .before .if1 .left)
+unfolding carried-left
+returns c = rw (c .before .before .before .before .lesser .ensures)
 
 pub carry-left-spec : {M : Type 1} → statement M
-carry-left-spec =
-    tie.close
-    (tie.spec divide-requires mul-t5 add-t6 returns mul-t7 add-t8 mul-t9 sub-t10 returns-2)
+carry-left-spec = tie.close (tie.spec div-lesser lesser-requires mul-t4 add-t5 mul-t6 sub-t7 returns)
