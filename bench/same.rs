@@ -130,24 +130,16 @@ fn carry_left(state: State, cuts: Cuts) -> Moved {
 #[inline(always)]
 fn carry_right(state: State, cuts: Cuts) -> Moved {
     let over = state.distance.saturating_sub(cuts.rest);
-    let back = over / state.short;
-    let moved = Moved {
-        argument: state.argument + (state.shorts + cuts.number * state.longs - back * state.longs),
-        distance: over % state.short,
-    };
-    // In two tests: the compiler makes a branch of one that has both conditions.
+    let argument = state.argument + (state.shorts + cuts.number * state.longs - over / state.short * state.longs);
+    let distance = over % state.short;
+    // In two tests: of one with both conditions the compiler makes a branch.
     if state.longs <= state.argument {
-        return unmoved(state);
+        return Moved { argument: state.argument, distance: state.distance };
     }
     if state.distance < cuts.rest {
-        return unmoved(state);
+        return Moved { argument: state.argument, distance: state.distance };
     }
-    moved
-}
-
-#[inline(always)]
-fn unmoved(state: State) -> Moved {
-    Moved { argument: state.argument, distance: state.distance }
+    Moved { argument, distance }
 }
 
 #[inline(always)]
