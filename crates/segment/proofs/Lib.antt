@@ -7,6 +7,7 @@ pub mod Standing
 pub mod Minimum
 pub mod Reaching
 pub mod Carrying
+pub mod Rows
 pub mod Stood
 pub mod Walk
 pub mod Steps

@@ -17,8 +17,8 @@ use Rattle.segment.specs.Search.{Search, reached}
 use Rattle.segment.specs.Search.Search.{regular, fine}
 use Rattle.segment.specs.State.{points, all-cuts, cuts-to, last-cuts, cut-state, ends, is-passed, Steppable, Unreached, regular-next, fine-next}
 use Rattle.segment.specs.declared.state.State.{State}
-use Rattle.segment.proofs.Quotients.{cuts-exact, cuts-inexact, rest-exact, rest-inexact}
-use Rattle.segment.proofs.Carrying.{ends-exact, ends-inexact, Stays, Passes, passes-or-stays, is-passed-true, is-passed-false, before-below, fewer-or-last, in-row}
+use Rattle.segment.proofs.Quotients.{cuts-exact, cuts-inexact, rest-inexact}
+use Rattle.segment.proofs.Rows.{ends-exact, ends-inexact, Stays, Passes, passes-or-stays, is-passed-true, is-passed-false, before-below, fewer-or-last, in-row}
 use Rattle.segment.proofs.Standing.{whole, short-some, distance-below, below}
 use Rattle.segment.proofs.Stood.{Stood, cut-stood, turned-stood, points-fit, stood-best}
 use Rattle.segment.proofs.Reaching.{regular-on, regular-period, fine-part, fine-on}
@@ -52,11 +52,7 @@ module _ {k : Search} {s : Segment} {odd : Bool} {t : State} (r : At-row k s odd
   quotient-few : t .long / t .short ≤ suc (all-cuts t)
   quotient-few = ⊎-elim (λ e. omega (arith, exact e)) (λ h. omega (arith, inexact h)) (eq-zero-or-pos (t .long % t .short))
 
-  -- in the last row all cuts leave the short length
-  exact-rest : t .long % t .short ≡ 0 → t .long - all-cuts t * t .short ≡ t .short
-  exact-rest e = rest-exact (t .long) (t .short) short-pos (le-of-lt (r .falls)) e
-
-  -- in any other row the remainder
+  -- all cuts of a row that is not the last leave the remainder
   inexact-rest : 0 < t .long % t .short → t .long - all-cuts t * t .short ≡ t .long % t .short
   inexact-rest h = rest-inexact (t .long) (t .short) short-pos h
 
@@ -69,14 +65,12 @@ module _ {k : Search} {s : Segment} {odd : Bool} {t : State} (a : Accepted s) (r
   unfolding cut-state
   steppable =
       let w = r .stood in
-      let m = a .modulus-high in
-      let f : t .long ≤ s .modulus = omega (arith, whole (w .stands), mul-le-mul-right (t .long) (longs-pos r)) in
       record {
         whole = record {
           short-some = short-pos r;
           room = div-mul-le-self (t .long) (t .short);
           within = omega (arith, w .shows, distance-below (w .stands) (le-of-lt (r .falls)));
-          fits = omega (arith, below (w .stands), points-fit w, points-fit (all-stood r), mul-le-mul-right (t .longs) (quotient-few r));
+          fits = omega (arith, a .modulus-high, below (w .stands), points-fit w, points-fit (all-stood r), mul-le-mul-right (t .longs) (quotient-few r));
         };
         falls = le-of-lt (r .falls);
         row = row-few (a .count-high) r;

@@ -1,6 +1,6 @@
 -- `segment::state::all_cuts` meets its contract. Assumes nothing.
 use native.Mathlib.Omega.{arith}
-use Rattle.segment.proofs.Carrying.{number-some, last-number, row-number}
+use Rattle.segment.proofs.Rows.{number-some, last-number, row-number}
 use Rattle.segment.proofs.state.all_cuts.Statement.{statement}
 use Rattle.segment.proofs.state.all_cuts.Tie as tie
 

@@ -27,7 +27,10 @@ rem-t5 : tie.Need-rem-t5
 rem-t5 c = search needs
 
 returns : tie.Need-returns
-returns c = let d = c .before .before .before .before in let a = all-able (d .pre) in moved-left _ (d .args .state) (moves-few (d .args .state) (a .short-some) (a .within))
+returns c =
+    let d = c .before .before .before .before in
+    let a = all-able (d .pre) in
+    moved-left _ (d .args .state) (moves-few (d .args .state) (a .short-some) (a .within))
 
 pub carry-all-left-spec : {M : Type 1} → statement M
 carry-all-left-spec = tie.close (tie.spec div-t2 mul-t3 add-t4 rem-t5 returns)

@@ -48,7 +48,24 @@ returns-2 : tie.Need-returns-2
 returns-2 c = c .unmoved2 .ensures ∙ left-alone _ _ (omega arith) (omega arith)
 
 returns-3 : tie.Need-returns-3
-returns-3 c = let d = c .before .before .before .before .before .before .before .before .before .before .before .before in rw (d .less .ensures) (moved-right _ _ (omega arith) (d .before .pre .rest-is) (omega arith))
+returns-3 c =
+    let d = c .before .before .before .before .before .before .before .before .before .before .before .before in
+    rw (d .less .ensures) (moved-right _ _ (omega arith) (d .before .pre .rest-is) (omega arith))
 
 pub carry-right-spec : {M : Type 1} → statement M
-carry-right-spec = tie.close (tie.spec less-requires div-back mul-t6 add-t7 mul-t8 sub-t9 add-t10 rem-t11 unmoved-requires returns unmoved-requires-2 returns-2 returns-3)
+carry-right-spec =
+    tie.close
+    (tie.spec
+    less-requires
+    div-back
+    mul-t6
+    add-t7
+    mul-t8
+    sub-t9
+    add-t10
+    rem-t11
+    unmoved-requires
+    returns
+    unmoved-requires-2
+    returns-2
+    returns-3)

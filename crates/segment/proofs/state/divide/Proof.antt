@@ -1,6 +1,6 @@
 -- `segment::state::divide` meets its contract. Assumes nothing.
 use borrow.Author.Needs.{needs}
-use Rattle.segment.proofs.Carrying.{divided}
+use Rattle.segment.proofs.Rows.{divided}
 use Rattle.segment.proofs.state.divide.Statement.{statement}
 use Rattle.segment.proofs.state.divide.Tie as tie
 

@@ -1,7 +1,7 @@
 -- `segment::state::end` meets its contract. Assumes nothing.
 use native.Mathlib.Numerals.{add-one}
 use borrow.Author.Needs.{needs}
-use Rattle.segment.proofs.Carrying.{ended}
+use Rattle.segment.proofs.Rows.{ended}
 use Rattle.segment.proofs.state.end.Statement.{statement}
 use Rattle.segment.proofs.state.end.Tie as tie
 
@@ -48,4 +48,16 @@ returns c =
     (ended (a .state) (a .cuts) (a .moved) (a .whole))
 
 pub end-spec : {M : Type 1} → statement M
-end-spec = tie.close (tie.spec mul-shorts add-shorts pick-requires pick-requires-2 pick-requires-3 pick-requires-4 pick-requires-5 add-pick-index pick-index-requires returns)
+end-spec =
+    tie.close
+    (tie.spec
+    mul-shorts
+    add-shorts
+    pick-requires
+    pick-requires-2
+    pick-requires-3
+    pick-requires-4
+    pick-requires-5
+    add-pick-index
+    pick-index-requires
+    returns)

@@ -1,6 +1,6 @@
 -- `segment::state::ends` meets its contract. Assumes nothing.
 use borrow.Author.Needs.{needs}
-use Rattle.segment.proofs.Carrying.{last-ends}
+use Rattle.segment.proofs.Rows.{last-ends}
 use Rattle.segment.proofs.state.ends.Statement.{statement}
 use Rattle.segment.proofs.state.ends.Tie as tie
 

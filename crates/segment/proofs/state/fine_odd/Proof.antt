@@ -4,7 +4,8 @@ use mathlib.Core.Bool.{true}
 use borrow.Author.Needs.{needs}
 use Rattle.segment.specs.State.{Cuttable, carried-right, cut-state}
 use Rattle.segment.specs.declared.state.Cuts.{Cuts}
-use Rattle.segment.proofs.Carrying.{cutting, last-able, row-cutting, on-all, regular-by, fine-on, fine-ends}
+use Rattle.segment.proofs.Carrying.{cutting, last-able}
+use Rattle.segment.proofs.Rows.{row-cutting, on-all, regular-by, fine-goes-on, fine-ends}
 use Rattle.segment.proofs.state.fine_odd.Statement.{statement}
 use Rattle.segment.proofs.state.fine_odd.Tie as tie
 
@@ -31,26 +32,43 @@ carry-right-requires-2 : tie.Need-carry-right-requires-2
 carry-right-requires-2 c κs = cutting (c .cut .ensures) (able (c .before))
 
 end-requires : tie.Need-end-requires
-end-requires c κs = (cutting (c .before .before .before .cut .ensures) (able (c .before .before .before .before)), c .before .before .before .before .before .before .before .before .before .pre .0 .row)
+end-requires c κs =
+    let j = c .before .before .before .before in
+    (cutting (c .before .before .before .cut .ensures) (able j), j .before .before .before .before .before .pre .0 .row)
 
 returns : tie.Need-returns
 unfolding cut-state
 returns c =
-    let d = c .before .before .before .before .before .before .before .before .before in
-    let p = d .before .pre in
-    rw (c .end .ensures, c .before .before .before .carry-right2 .ensures, c .before .before .before .before .cut .ensures, c .before .before .before .before .before .cuts-to .ensures, d .divide .ensures)
-    (fine-ends _ _ (p .1) (p .0 .whole .short-some) (p .0 .falls) true (sym (c .before .before .before .before .before .before .before .ends .ensures) ∙ c .before .before .before .before .before .before .if1 .taken))
+    let m = c .before .before .before in
+    let j = m .before .before in
+    let d = j .before .before .before .before in
+    let h = sym (j .before .before .ends .ensures) ∙ j .before .if1 .taken in
+    rw (c .end .ensures, m .carry-right2 .ensures, m .before .cut .ensures, j .cuts-to .ensures, d .divide .ensures)
+    (fine-ends true _ (d .before .pre .0) (d .before .pre .1) h)
 
 next-row-requires : tie.Need-next-row-requires
 next-row-requires c κs = let d = c .before .before .before in (row-cutting (d .before .pre .0) (d .divide .ensures), d .before .pre .0 .row)
 
 returns-2 : tie.Need-returns-2
 returns-2 c =
-    let d = c .before .before .before .before in
-    let p = d .before .pre in
+    let m = c .before .before .before in
+    let d = m .before in
     let h = sym (c .before .before .ends .ensures) ∙ c .before .if1 .left in
-    let k = on-all (p .0) (d .divide .ensures) _ h in
-    c .next-row .ensures ∙ regular-by true _ _ k (c .before .before .before .carry-right .ensures ∙ ap (λ (x : Cuts). carried-right (x .number) (d .before .args .state)) k) (sym h) ∙ fine-on _ _ (p .1) (p .0 .whole .short-some) (p .0 .falls) true h
+    let all = on-all (d .before .pre .0) (d .divide .ensures) _ h in
+    c .next-row .ensures ∙ regular-by true _ _ all (m .carry-right .ensures ∙ ap (λ (x : Cuts). carried-right (x .number) (d .before .args .state)) all) (sym h)
+    ∙ fine-goes-on true _ (d .before .pre .0) (d .before .pre .1) h
 
 pub fine-odd-spec : {M : Type 1} → statement M
-fine-odd-spec = tie.close (tie.spec divide-requires carry-right-requires ends-requires cuts-to-requires cut-requires carry-right-requires-2 end-requires returns next-row-requires returns-2)
+fine-odd-spec =
+    tie.close
+    (tie.spec
+    divide-requires
+    carry-right-requires
+    ends-requires
+    cuts-to-requires
+    cut-requires
+    carry-right-requires-2
+    end-requires
+    returns
+    next-row-requires
+    returns-2)

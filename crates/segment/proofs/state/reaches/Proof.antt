@@ -1,6 +1,6 @@
 -- `segment::state::reaches` meets its contract. Assumes nothing.
 use native.Mathlib.Omega.{arith}
-use Rattle.segment.proofs.Carrying.{row-cutting, row-ends}
+use Rattle.segment.proofs.Rows.{row-cutting, row-ends}
 use Rattle.segment.proofs.state.reaches.Statement.{statement}
 use Rattle.segment.proofs.state.reaches.Tie as tie
 

@@ -5,7 +5,8 @@ use Prim.Native.Nat.{ℕ, _-_}
 use native.Mathlib.Omega.{arith}
 use borrow.Author.Needs.{needs}
 use Rattle.segment.specs.State.{cuts-of, Cuttable}
-use Rattle.segment.proofs.Carrying.{cutting, all-able, number-some, row-cutting, row-all, last-number, last-ends, regular-by}
+use Rattle.segment.proofs.Carrying.{cutting, all-able}
+use Rattle.segment.proofs.Rows.{number-some, row-cutting, row-all, last-number, last-ends, regular-by}
 use Rattle.segment.proofs.state.regular_even.Statement.{statement}
 use Rattle.segment.proofs.state.regular_even.Tie as tie
 

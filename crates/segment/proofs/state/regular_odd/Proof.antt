@@ -6,7 +6,8 @@ use native.Mathlib.Omega.{arith}
 use borrow.Author.Needs.{needs}
 use Rattle.segment.specs.State.{cuts-of, Cuttable, carried-right}
 use Rattle.segment.specs.declared.state.Cuts.{Cuts}
-use Rattle.segment.proofs.Carrying.{cutting, all-able, number-some, row-cutting, row-all, last-number, last-ends, regular-by}
+use Rattle.segment.proofs.Carrying.{cutting, all-able}
+use Rattle.segment.proofs.Rows.{number-some, row-cutting, row-all, last-number, last-ends, regular-by}
 use Rattle.segment.proofs.state.regular_odd.Statement.{statement}
 use Rattle.segment.proofs.state.regular_odd.Tie as tie
 
@@ -31,10 +32,12 @@ next-row-requires c κs = (cutting (c .before .cut .ensures) (able (c .before .b
 
 returns : tie.Need-returns
 returns c =
-    let d = c .before .before .before .before .before .before in
-    let t = c .before .before .before .before .if1 .taken in
-    let k = c .before .before .cut .ensures ∙ ap (λ (n : ℕ). cuts-of n (d .before .args .state)) (last-number (d .before .pre) (d .divide .ensures) t) in
-    c .next-row .ensures ∙ regular-by true _ _ k (c .before .carry-right .ensures ∙ ap (λ (x : Cuts). carried-right (x .number) (d .before .args .state)) k) (last-ends (d .before .pre) (d .divide .ensures) t _)
+    let t = c .before .before .before .before in
+    let d = t .before .before in
+    let all = c .before .before .cut .ensures ∙ ap (λ (n : ℕ). cuts-of n (d .before .args .state)) (last-number (d .before .pre) (d .divide .ensures) (t .if1 .taken)) in
+    c .next-row .ensures
+    ∙ regular-by true _ _ all (c .before .carry-right .ensures ∙ ap (λ (x : Cuts). carried-right (x .number) (d .before .args .state)) all)
+    (last-ends (d .before .pre) (d .divide .ensures) (t .if1 .taken) _)
 
 carry-right-requires-2 : tie.Need-carry-right-requires-2
 carry-right-requires-2 c κs = let d = c .before .before in row-cutting (d .before .pre) (d .divide .ensures)
@@ -48,8 +51,22 @@ next-row-requires-2 c κs = let d = c .before .before .before .before in (row-cu
 returns-2 : tie.Need-returns-2
 returns-2 c =
     let d = c .before .before .before .before .before in
-    let k = row-all (d .before .pre) (d .divide .ensures) (omega arith) in
-    c .next-row2 .ensures ∙ regular-by true _ _ k (c .before .before .carry-right2 .ensures ∙ ap (λ (x : Cuts). carried-right (x .number) (d .before .args .state)) k) (c .before .reaches .ensures)
+    let all = row-all (d .before .pre) (d .divide .ensures) (omega arith) in
+    c .next-row2 .ensures
+    ∙ regular-by true _ _ all (c .before .before .carry-right2 .ensures ∙ ap (λ (x : Cuts). carried-right (x .number) (d .before .args .state)) all)
+    (c .before .reaches .ensures)
 
 pub regular-odd-spec : {M : Type 1} → statement M
-regular-odd-spec = tie.close (tie.spec divide-requires sub-cut cut-requires carry-right-requires next-row-requires returns carry-right-requires-2 reaches-requires next-row-requires-2 returns-2)
+regular-odd-spec =
+    tie.close
+    (tie.spec
+    divide-requires
+    sub-cut
+    cut-requires
+    carry-right-requires
+    next-row-requires
+    returns
+    carry-right-requires-2
+    reaches-requires
+    next-row-requires-2
+    returns-2)
