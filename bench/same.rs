@@ -168,7 +168,7 @@ fn end(state: State, cuts: Cuts, moved: Moved, whole: bool) -> State {
         argument: moved.argument,
         distance: moved.distance,
         part: pick(whole, 0, cuts.number),
-        index: state.index + whole as u32,
+        index: state.index + pick(whole, 1, 0) as u32,
         done: true,
     }
 }

@@ -1,10 +1,10 @@
 //! Both searches in unverified Rust, as fast as we know to make them, with the same refusals and answers as the proved calls.
 //!
 //! Two rows a turn, so that none asks whether it is even, and hints that no branch is meant. Each search comes in three versions. One
-//! divides by the instruction, which is the fastest where that takes some fifteen cycles. The others are for processors where it
-//! takes several times that: the only branch in a row that is hard to foresee is on the size of its quotient, and below 8, as five in
-//! six are, it is found by three selects; those from 8 up by the instruction, or by one reciprocal in floating-point numbers for both
-//! divisions of a row, which have the same divisor.
+//! divides by the instruction, which is the fastest where that takes some fifteen cycles. The others are faster on some processors:
+//! the only branch in a row that is hard to foresee is on the size of its quotient, and below 8, as five in six are, it is found by
+//! three selects; those from 8 up by the instruction, or by one reciprocal in floating-point numbers for both divisions of a row,
+//! which have the same divisor.
 
 use std::hint::select_unpredictable as select;
 

@@ -1,10 +1,11 @@
 -- The rows: which is the last of a search, how the code divides one, and what it makes of it in each step. Assumes nothing.
 use mathlib.Core.Path.{_≡_, refl, sym, _∙_, ap}
-use mathlib.Core.Bool.{Bool, true, false, _||_, cond, false≢true}
+use mathlib.Core.Bool.{Bool, true, false, cond, or-true, or-false, false≢true}
 use mathlib.Core.Logic.{_⊎_, inl, inr, ⊎-elim, by-cases}
 use Prim.Native.Nat.{ℕ, suc, _+_, _-_, _*_, _/_, _%_, _≤_, _<_}
-use native.Mathlib.Nat.{mul-le-mul-right, lt-of-mul-lt-mul-right, eq-or-lt-of-le, eq-zero-or-pos, mod-lt, min-eq-right, min-le-left, min-le-right, mod-eq-sub-div-mul, div-mul-le-self, le-div-iff-mul-le}
+use native.Mathlib.Nat.{add-zero, mul-le-mul-right, lt-of-mul-lt-mul-right, eq-or-lt-of-le, eq-zero-or-pos, mod-lt, min-eq-right, min-le-left, min-le-right, mod-eq-sub-div-mul, div-mul-le-self, le-div-iff-mul-le}
 use native.Mathlib.Decide.{decLe}
+use native.Mathlib.Numerals.{add-one}
 use native.Mathlib.Omega.{arith}
 use borrow.Author.Tests.{le-leb, lt-leb, le-ltb, lt-ltb, leb-false, eq-eqb, ne-eqb}
 use lib.Dec.{eqb, leb}
@@ -22,22 +23,16 @@ module _ (s : State) (some : 0 < s .short) where
   -- one that leaves nothing is
   pub ends-exact : s .short ≤ s .long → s .long % s .short ≡ 0 → (N : ℕ) → ends N s ≡ true
   unfolding ends
-  ends-exact falls e N = either (leb N (s .shorts + all-cuts s * s .longs + s .longs))
-    where
-      either : (b : Bool) → b || eqb (s .short) (s .long - all-cuts s * s .short) ≡ true
-      either true = refl
-      either false = eq-eqb (s .short) (s .long - all-cuts s * s .short) (sym (rest-exact (s .long) (s .short) some falls e))
+  ends-exact falls e N =
+      rw (eq-eqb (s .short) (s .long - all-cuts s * s .short) (sym (rest-exact (s .long) (s .short) some falls e)))
+      (or-true (leb N (s .shorts + all-cuts s * s .longs + s .longs)))
 
   -- another is where it reaches N
   pub ends-inexact : 0 < s .long % s .short → (N : ℕ) → ends N s ≡ leb N (s .shorts + all-cuts s * s .longs + s .longs)
   unfolding ends
   ends-inexact h N =
       rw (ne-eqb (s .short) (s .long - all-cuts s * s .short) (λ e. omega (arith, e, rest-inexact (s .long) (s .short) some h, mod-lt (s .long) some)))
-      (either (leb N (s .shorts + all-cuts s * s .longs + s .longs)))
-    where
-      either : (b : Bool) → b || false ≡ b
-      either true = refl
-      either false = refl
+      (or-false (leb N (s .shorts + all-cuts s * s .longs + s .longs)))
 
   -- so that one after which the search goes on leaves something
   pub leaves-some : s .short ≤ s .long → (N : ℕ) → ends N s ≡ false → 0 < s .long % s .short
@@ -104,11 +99,15 @@ pub ended : (s : State) (c : Cuts) (m : Moved) (whole : Bool)
       argument = m .argument;
       distance = m .distance;
       part = cond whole 0 (c .number);
-      index = cond whole (suc (s .index)) (s .index);
+      index = s .index + cond whole 1 0;
       done = true;
     } ≡ cond whole (in-next-row true (row-of s c m)) (row-of s c m)
-ended s c m true = refl
-ended s c m false = refl
+ended s c m true = rw add-one
+ended s c m false = rw add-zero
+
+pub one-or-none : (b : Bool) → cond b 1 0 ≤ 1
+one-or-none true = omega arith
+one-or-none false = omega arith
 
 module _ (N : ℕ) (s : State) where
   -- a row that is not passed: its configurations reach N, or it is the last

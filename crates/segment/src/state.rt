@@ -14,16 +14,16 @@ ghost use Rattle.segment.specs.State.{first-state, quotient, all-cuts, l
 
 // longs gaps of length long and shorts gaps of length short, after part cuts of the row index; the argument of least residue below the count
 // longs + shorts, and its residue, the distance. Done: this is the configuration that the search reaches.
-pub struct State {
-    pub long: u64,
-    pub short: u64,
-    pub longs: u64,
-    pub shorts: u64,
-    pub argument: u64,
-    pub distance: u64,
-    pub part: u64,
-    pub index: u32,
-    pub done: bool,
+pub(crate) struct State {
+    pub(crate) long: u64,
+    pub(crate) short: u64,
+    pub(crate) longs: u64,
+    pub(crate) shorts: u64,
+    pub(crate) argument: u64,
+    pub(crate) distance: u64,
+    pub(crate) part: u64,
+    pub(crate) index: u32,
+    pub(crate) done: bool,
 }
 
 // How often a row's long gaps are cut, and what that leaves of them.
@@ -39,7 +39,7 @@ struct Moved {
 }
 
 // One point. A step of 0 has no more than that, and a count of 1 asks for no more.
-pub fn first(modulus: u64, step: u64, start: u64, count: u64) -> State
+pub(crate) fn first(modulus: u64, step: u64, start: u64, count: u64) -> State
     ensures { λ r. ⌜ r ≡ first-state modulus step start count ⌝ }
 {
     State {
@@ -66,7 +66,7 @@ fn none_or_one(step: u64, count: u64) -> bool
 
 // The regular step draws a quotient: it cuts the long gaps as often as they can be, to the configuration of the next row, or to that of the
 // period.
-pub fn regular_even(state: State, count: u64) -> State
+pub(crate) fn regular_even(state: State, count: u64) -> State
     requires { ⌜ Steppable state ⌝ }
     ensures { λ r. ⌜ r ≡ regular-next false count state ⌝ }
 {
@@ -79,7 +79,7 @@ pub fn regular_even(state: State, count: u64) -> State
     next_row(state, row, moved, reaches(state, row, count))
 }
 
-pub fn regular_odd(state: State, count: u64) -> State
+pub(crate) fn regular_odd(state: State, count: u64) -> State
     requires { ⌜ Steppable state ⌝ }
     ensures { λ r. ⌜ r ≡ regular-next true count state ⌝ }
 {
@@ -94,7 +94,7 @@ pub fn regular_odd(state: State, count: u64) -> State
 
 // The fine step does the same where the search goes on after it, and else goes to the first configuration that is not below the count; in the
 // last row to the last one at most.
-pub fn fine_even(state: State, count: u64) -> State
+pub(crate) fn fine_even(state: State, count: u64) -> State
     requires { ⌜ Steppable state ⌝ }
     requires { ⌜ Unreached count state ⌝ }
     ensures { λ r. ⌜ r ≡ fine-next false count state ⌝ }
@@ -109,7 +109,7 @@ pub fn fine_even(state: State, count: u64) -> State
     next_row(state, row, moved, false)
 }
 
-pub fn fine_odd(state: State, count: u64) -> State
+pub(crate) fn fine_odd(state: State, count: u64) -> State
     requires { ⌜ Steppable state ⌝ }
     requires { ⌜ Unreached count state ⌝ }
     ensures { λ r. ⌜ r ≡ fine-next true count state ⌝ }
@@ -282,21 +282,12 @@ fn end(state: State, cuts: Cuts, moved: Moved, whole: bool) -> State
         argument: moved.argument,
         distance: moved.distance,
         part: pick(whole, 0, cuts.number),
-        index: pick_index(whole, state.index + 1, state.index),
+        index: state.index + pick(whole, 1, 0) as u32,
         done: true,
     }
 }
 
 fn pick(first: bool, a: u64, b: u64) -> u64
-    ensures { λ r. ⌜ r ≡ cond first a b ⌝ }
-{
-    if first {
-        return a;
-    }
-    b
-}
-
-fn pick_index(first: bool, a: u32, b: u32) -> u32
     ensures { λ r. ⌜ r ≡ cond first a b ⌝ }
 {
     if first {

@@ -1,9 +1,14 @@
 -- `segment::state::end` meets its contract. Assumes nothing.
-use native.Mathlib.Numerals.{add-one}
+use Prim.Native.Nat.{_≤_}
+use native.Mathlib.Omega.{arith}
 use borrow.Author.Needs.{needs}
-use Rattle.segment.proofs.Rows.{ended}
+use Rattle.segment.proofs.Rows.{one-or-none, ended}
 use Rattle.segment.proofs.state.end.Statement.{statement}
 use Rattle.segment.proofs.state.end.Tie as tie
+
+-- the index goes on by one at most
+one : (c : tie.After-pick6) → c .pick6 .result ≤ 1
+one c = rw (c .pick6 .ensures) (one-or-none (c .before .before .before .before .before .before .before .before .before .args .whole))
 
 mul-shorts : tie.Need-mul-shorts
 mul-shorts c = search needs
@@ -26,24 +31,26 @@ pick-requires-4 c κs = search needs
 pick-requires-5 : tie.Need-pick-requires-5
 pick-requires-5 c κs = search needs
 
-add-pick-index : tie.Need-add-pick-index
-add-pick-index c = search needs
+pick-requires-6 : tie.Need-pick-requires-6
+pick-requires-6 c κs = search needs
 
-pick-index-requires : tie.Need-pick-index-requires
-pick-index-requires c κs = search needs
+cast-t12 : tie.Need-cast-t12
+cast-t12 c = let h = one c in omega arith
+
+add-t13 : tie.Need-add-t13
+add-t13 c = let h = one (c .before) in omega arith
 
 returns : tie.Need-returns
 returns c =
-    let d = c .before .before in
-    let a = d .before .before .before .before .before .before .before .before .args in
+    let d = c .before in
+    let a = d .before .before .before .before .before .before .before .before .before .args in
     rw (
-      c .pick-index .ensures,
-      d .pick5 .ensures,
-      d .before .pick4 .ensures,
-      d .before .before .pick3 .ensures,
-      d .before .before .before .pick2 .ensures,
-      d .before .before .before .before .pick .ensures,
-      add-one,
+      d .pick6 .ensures,
+      d .before .pick5 .ensures,
+      d .before .before .pick4 .ensures,
+      d .before .before .before .pick3 .ensures,
+      d .before .before .before .before .pick2 .ensures,
+      d .before .before .before .before .before .pick .ensures,
     )
     (ended (a .state) (a .cuts) (a .moved) (a .whole))
 
@@ -58,6 +65,7 @@ end-spec =
     pick-requires-3
     pick-requires-4
     pick-requires-5
-    add-pick-index
-    pick-index-requires
+    pick-requires-6
+    cast-t12
+    add-t13
     returns)
