@@ -2,3 +2,5 @@ pub mod Remainders
 pub mod Divisors
 pub mod Fibonacci
 pub mod Lists
+pub mod Congruences
+pub mod Selections

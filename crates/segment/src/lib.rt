@@ -116,7 +116,7 @@ pub fn fine_search(modulus: u64, step: u64, start: u64, count: u64, window: u64)
 }
 
 // The number of the first condition that a segment fails, or 0.
-fn refuse(modulus: u64, step: u64, start: u64, count: u64, window: u64) -> u32
+pub fn refuse(modulus: u64, step: u64, start: u64, count: u64, window: u64) -> u32
     ensures { λ r. ⌜ r ≡ refusal (segment modulus step start count window) ⌝ }
 {
     if modulus < 2 {

@@ -1,0 +1,11 @@
+pub mod Values
+pub mod Products
+pub mod Bounds
+pub mod Scanning
+pub mod Coverings
+pub mod Clearing
+pub mod Parts
+pub mod Curves
+pub mod Refusals
+pub mod Lines
+pub mod Answers

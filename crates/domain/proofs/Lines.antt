@@ -1,0 +1,76 @@
+-- A segment is a domain without a curve: its residues are that domain's values, so that a scan of the one lists the hard arguments of the other.
+-- Assumes nothing.
+use mathlib.Core.Path.{_≡_, refl, sym, _∙_, ap}
+use mathlib.Core.Bool.{false}
+use mathlib.Core.List.{List}
+use Prim.Native.Nat.{ℕ, _+_, _-_, _*_, _%_, _<_}
+use native.Mathlib.Nat.{mod-lt}
+use native.Mathlib.Omega.{arith}
+use lib.Dec.{ltb}
+use Rattle.numbers.proofs.Congruences.{Congruent, equals, flip, chain, plus, times, cancel, none, remainder, same}
+use Rattle.numbers.proofs.Selections.{having-same}
+use Rattle.segment.specs.Segment.{Segment, residue, Accepted}
+use Rattle.segment.specs.Promise.{Residues-right}
+use Rattle.segment.proofs.Promises as segment
+use Rattle.domain.specs.Domain.{Fair, triangle, shifted, value-at, is-hard, hard-list, segment-hard-list}
+use Rattle.domain.specs.declared.part.Domain.{Domain}
+use Rattle.domain.proofs.Values.{value-below, shifted-by}
+
+-- the slope is the step's opposite
+abbrev pub line : Segment → Domain
+line s =
+    record {
+      modulus = s .modulus;
+      value = s .start;
+      slope = (s .modulus - s .step) % s .modulus;
+      falling = false;
+      size = 0;
+      count = s .count;
+      window = s .window;
+    }
+
+module _ {s : Segment} (a : Accepted s) where
+  some : 0 < s .modulus
+  some = omega (arith, a .start-below)
+
+  pub line-fair : Fair (line s)
+  line-fair =
+      record {
+        modulus-low = a .modulus-low;
+        modulus-high = a .modulus-high;
+        slope-below = mod-lt (s .modulus - s .step) some;
+        value-below = a .start-below;
+        count-low = a .count-low;
+        count-high = a .count-high;
+        window-within = a .window-within;
+        size-small = omega arith;
+      }
+
+  -- the step and its opposite count for nothing
+  opposite : Congruent (s .modulus) (line s .slope + s .step) 0
+  opposite =
+      chain (plus (remainder (s .modulus - s .step) (s .modulus)) (equals refl))
+      (chain (equals (omega (arith, a .step-below))) (none (s .modulus)))
+
+  pub line-value : (x : ℕ) → value-at (line s) x ≡ residue s x
+  line-value x =
+      same (value-below (line s) some x) (r .in-range x)
+      (cancel (s .step * x)
+      (chain (plus along (equals {a = s .step * x} refl))
+      (chain (equals (omega arith))
+      (chain (plus (equals {a = s .start} refl) (times x opposite))
+      (chain (equals (omega arith)) (chain (equals (sym (r .congruent x))) (remainder (residue s x + s .step * x) (s .modulus))))))))
+    where
+      r : Residues-right s
+      r = segment.promised .residues s a
+
+      along : Congruent (s .modulus) (value-at (line s) x) (s .start + line s .slope * x)
+      along =
+          unfold value-at in
+          chain (equals (omega arith))
+          (chain (shifted-by (s .modulus) (s .start + line s .slope * x) some false (0 * triangle x)) (equals (omega arith)))
+
+  pub line-list : hard-list (line s) ≡ segment-hard-list s
+  unfolding hard-list segment-hard-list is-hard
+  line-list =
+      having-same (is-hard (line s)) (λ x. ltb (residue s x) (s .window)) (s .count) 0 (λ y l. ap (λ (v : ℕ). ltb v (s .window)) (line-value y))

@@ -1,0 +1,21 @@
+-- What is known of the parts of a domain after phase 2, for the contracts of the functions that look at them. Assumes nothing: these are definitions.
+use mathlib.Core.List.{List, [], _∷_}
+use Prim.Native.Nat.{ℕ, zero, suc}
+use lib.ListN.{length}
+use Rattle.domain.specs.Domain.{hard-list, part, part-verdict, mark-of, marks-from}
+use Rattle.domain.specs.declared.part.Domain.{Domain}
+use Rattle.domain.specs.declared.phases.Look.{Look}
+use Rattle.domain.specs.declared.phases.Looks.{Looks}
+
+-- the mark of a part, and how many hard arguments it has
+unfoldable pub look-of : (part : Domain) → Look
+look-of p = record { mark = mark-of (part-verdict p); hard = length (hard-list p) }
+
+-- how many hard arguments as many parts from i on have as are left
+unfoldable pub counts-from : (left i : ℕ) → Domain → List ℕ
+counts-from zero i d = []
+counts-from (suc n) i d = length (hard-list (part d i)) ∷ counts-from n (suc i) d
+
+-- the same of all parts
+unfoldable pub looks-of : Domain → Looks
+looks-of d = record { marks = marks-from 8 0 d; counts = counts-from 8 0 d; listed = length (hard-list d) }

@@ -1,0 +1,160 @@
+-- What is promised of domains and of scans (the second demand), with the letters of document 01: M the modulus, c0 the value, c1 the slope,
+-- s the curve, N the count, w the window, D the spread; of a segment a the step and b the start. `Promised`, at the end, is all of it;
+-- proofs/Promises.antt proves it. Assumes nothing: these are statements.
+use mathlib.Core.Path.{_≡_}
+use mathlib.Core.Bool.{true, false}
+use mathlib.Core.List.{List, [], List·Memᴰ}
+use mathlib.Core.Logic.{_↔_, _⊎_}
+use Prim.Native.Nat.{ℕ, zero, suc, _+_, _-_, _*_, _%_, _^_, _≤_, _<_}
+use lib.Dec.{ltb}
+use lib.IntN.{ℤ, pos, negsuc, _+ℤ_, _*ℤ_, natAbs}
+use lib.ListN.{length, getD, replicate}
+use Rattle.numbers.specs.Lists.{Ascending, how-many}
+use Rattle.segment.specs.Segment.{Segment, segment, residue}
+use Rattle.segment.specs.Segment as segment-specs
+use Rattle.segment.specs.Search.{Search, distance}
+use Rattle.segment.specs.Search.Search.{regular, fine}
+use Rattle.segment.specs.Promise as segment-promise
+use Rattle.segment.specs.declared.Verdict.{Verdict}
+use Rattle.segment.specs.declared.Verdict.the-variants.{Clear, Possible}
+use Rattle.domain.specs.Domain.{domain, triangle, value-at, slope-at, is-hard, hard-list, segment-hard-list, spread, covering, part-start, part-count, part, first-verdict, part-verdict, marks-from, marks-after, Fair, Accepted}
+use Rattle.domain.specs.Answer.{domain-answer, domain-left, scan-answer, scan-left, scan-refusal}
+use Rattle.domain.specs.declared.part.Domain.{Domain}
+use Rattle.domain.specs.declared.DomainAnswer.{DomainAnswer}
+use Rattle.domain.specs.declared.ScanAnswer.the-variants.{Refused, Listed}
+
+-- ---- values
+
+-- V(x) is the number from 0 to M - 1 that differs from c0 + c1·x + s·x(x-1)/2 by a multiple of M
+pub record Values-right (M c0 c1 : ℕ) (s : ℤ) (N w : ℕ) : Type 0 where
+  pub in-range : (x : ℕ) → value-at (domain M c0 c1 s N w) x < M
+  pub congruent : (x : ℕ)
+      → (k : ℤ) × (pos (value-at (domain M c0 c1 s N w) x) ≡ pos (c0 + c1 * x) +ℤ s *ℤ pos (triangle x) +ℤ k *ℤ pos M)
+  -- x(x-1)/2 is a whole number
+  pub halved : (x : ℕ) → triangle x + triangle x ≡ x * (x - 1)
+  -- V(x + 1) is V(x) + c1 + s·x, modulo M
+  pub differences : (x : ℕ)
+      → (value-at (domain M c0 c1 s N w) (suc x) ≡ (value-at (domain M c0 c1 s N w) x + slope-at (domain M c0 c1 s N w) x) % M)
+      × ((k : ℤ) × (pos (slope-at (domain M c0 c1 s N w) x) ≡ pos c1 +ℤ s *ℤ pos x +ℤ k *ℤ pos M))
+
+-- ---- lists
+
+-- an argument is hard that is below the count and whose value is less than the window
+abbrev pub Hard : Domain → (x : ℕ) → Type 0
+Hard d x = (x < d .count) × (value-at d x < d .window)
+
+-- a list has exactly the numbers that are hard, each once and ascending; they fit 32 bits, and there are as many as are counted
+pub record Lists (hard : (x : ℕ) → Type 0) (count : ℕ) (xs : List ℕ) : Type 0 where
+  pub exactly : (x : ℕ) → List·Memᴰ x xs ↔ hard x
+  pub ascending : Ascending xs
+  pub fits : (x : ℕ) → List·Memᴰ x xs → x < 2 ^ 32
+  pub counted : length xs ≡ count
+
+-- ---- the covering segment and the parts
+
+-- the covering segment is accepted by the searches, and wherever a value is less than the window, its residue is less than its own
+pub record Covered (d : Domain) : Type 0 where
+  pub accepted : segment-specs.Accepted (covering d)
+  pub covers : (x : ℕ) → x < d .count → value-at d x < d .window → residue (covering d) x < covering d .window
+
+-- parts cover the arguments from 0 to N - 1 once each, in order, and each goes on where the domain is
+pub record Parts-right (d : Domain) : Type 0 where
+  pub first : part-start d 0 ≡ 0
+  pub next : (i : ℕ) → part-start d (suc i) ≡ part-start d i + part-count d i
+  pub last : part-start d 8 ≡ d .count
+  pub once : (x : ℕ) → x < d .count → (i : ℕ) × (i < 8) × (part-start d i ≤ x) × (x < part-start d i + part-count d i)
+      × ((j : ℕ) → j < 8 → part-start d j ≤ x → x < part-start d j + part-count d j → j ≡ i)
+  pub length-of : (i : ℕ) → part d i .count ≡ part-count d i
+  pub equal : (i : ℕ) → part-count d i * 8 ≡ d .count
+  pub fair : (i : ℕ) → Fair (part d i)
+  pub covered : (i : ℕ) → Covered (part d i)
+  pub continues : (i y : ℕ) → value-at (part d i) y ≡ value-at d (part-start d i + y)
+  pub slope : (i y : ℕ) → slope-at (part d i) y ≡ slope-at d (part-start d i + y)
+
+-- ---- the phases
+
+-- phase 1 clears a domain exactly where the regular search of its covering segment has a distance of at least the window, and then no argument
+-- is hard; phase 2 does so with the fine search of a part's
+pub record Phases-right (d : Domain) : Type 0 where
+  pub first-clear : (first-verdict d ≡ Clear) ↔ (covering d .window ≤ distance regular (covering d))
+  pub first-none : first-verdict d ≡ Clear → (x : ℕ) → Hard d x → ⊥
+  pub part-clear : (i : ℕ) → (part-verdict (part d i) ≡ Clear) ↔ (covering (part d i) .window ≤ distance fine (covering (part d i)))
+  pub part-none : (i : ℕ) → part-verdict (part d i) ≡ Clear → (x : ℕ) → part-start d i ≤ x → x < part-start d i + part-count d i → value-at d x < d .window → ⊥
+
+-- the eight marks: all 0 where phase 1 clears the domain, and then nothing is listed; else 1 where the part is clear, and then no argument of it
+-- is hard, or 2 where it is possible
+pub record Marks-right (d : Domain) (first : Verdict) (marks : List ℕ) : Type 0 where
+  pub eight : length marks ≡ 8
+  pub not-looked-at : first ≡ Clear → (i : ℕ) → i < 8 → getD marks i 0 ≡ 0
+  pub clear : first ≡ Possible → (i : ℕ) → i < 8 → (getD marks i 0 ≡ 1) ↔ (part-verdict (part d i) ≡ Clear)
+  pub possible : first ≡ Possible → (i : ℕ) → i < 8 → (getD marks i 0 ≡ 2) ↔ (part-verdict (part d i) ≡ Possible)
+  pub none-hard : (i : ℕ) → i < 8 → getD marks i 0 ≡ 1 → (x : ℕ) → part-start d i ≤ x → x < part-start d i + part-count d i → value-at d x < d .window → ⊥
+
+-- ---- refusals
+
+-- why a domain is refused, given so many places: each number only where no lower one applies
+pub data Refused-for (d : Domain) (places : ℕ) : (number : ℕ) → Type 0 where
+  modulus-outside : (d .modulus < 2) ⊎ (2 ^ 62 < d .modulus) → Refused-for d places 1
+  slope-outside : 2 ≤ d .modulus → d .modulus ≤ 2 ^ 62 → d .modulus ≤ d .slope → Refused-for d places 2
+  value-outside : 2 ≤ d .modulus → d .modulus ≤ 2 ^ 62 → d .slope < d .modulus → d .modulus ≤ d .value → Refused-for d places 3
+  count-outside : 2 ≤ d .modulus → d .modulus ≤ 2 ^ 62 → d .slope < d .modulus → d .value < d .modulus
+      → (d .count < 8) ⊎ (1048576 < d .count) ⊎ (d .count % 8 ≡ 0 → ⊥) → Refused-for d places 4
+  window-outside : 2 ≤ d .modulus → d .modulus ≤ 2 ^ 62 → d .slope < d .modulus → d .value < d .modulus → 8 ≤ d .count → d .count ≤ 1048576
+      → d .count % 8 ≡ 0 → d .modulus < d .window → Refused-for d places 5
+  curve-outside : 2 ≤ d .modulus → d .modulus ≤ 2 ^ 62 → d .slope < d .modulus → d .value < d .modulus → 8 ≤ d .count → d .count ≤ 1048576
+      → d .count % 8 ≡ 0 → d .window ≤ d .modulus → 1048576 < d .size → Refused-for d places 6
+  too-many : Accepted d → places < length (hard-list d) → Refused-for d places 7
+
+-- the same of a scan: as the searches refuse a segment, or too many
+pub data Scan-refused-for (s : Segment) (places : ℕ) : (number : ℕ) → Type 0 where
+  as-segment : {n : ℕ} → segment-promise.Refused-for s n → Scan-refused-for s places n
+  too-many : segment-specs.Accepted s → places < length (segment-hard-list s) → Scan-refused-for s places 7
+
+-- ---- answers
+
+-- the list of the caller: what is listed stands from the first place on, and every place after it is as it was
+pub record Left-right (xs old new : List ℕ) : Type 0 where
+  pub places : length new ≡ length old
+  pub room : length xs ≤ length old
+  pub front : (i : ℕ) → i < length xs → getD new i 0 ≡ getD xs i 0
+  pub after : (i : ℕ) → length xs ≤ i → getD new i 0 ≡ getD old i 0
+
+-- the domain of six numbers, and its answer with a list `old`
+pub record Domain-right (M c0 c1 : ℕ) (s : ℤ) (N w : ℕ) (old : List ℕ) : Type 0 where
+  -- a number refuses exactly where its condition holds and no lower one's, and leaves the list as it was; a refusal has no other content
+  pub refused : (n : ℕ) → (domain-answer M c0 c1 s N w (length old) .refusal ≡ suc n) ↔ Refused-for (domain M c0 c1 s N w) (length old) (suc n)
+  pub unchanged : (n : ℕ) → domain-answer M c0 c1 s N w (length old) .refusal ≡ suc n → domain-left M c0 c1 s N w old ≡ old
+  pub nothing-else : (n : ℕ) → domain-answer M c0 c1 s N w (length old) .refusal ≡ suc n
+      → domain-answer M c0 c1 s N w (length old) ≡ record { refusal = suc n; first = Possible; marks = replicate 8 0; listed = 0 }
+  -- otherwise it is accepted, and there are places enough
+  pub accepted : (domain-answer M c0 c1 s N w (length old) .refusal ≡ 0)
+      ↔ (Accepted (domain M c0 c1 s N w) × (length (hard-list (domain M c0 c1 s N w)) ≤ length old))
+  pub first : domain-answer M c0 c1 s N w (length old) .refusal ≡ 0 → domain-answer M c0 c1 s N w (length old) .first ≡ first-verdict (domain M c0 c1 s N w)
+  pub marks : domain-answer M c0 c1 s N w (length old) .refusal ≡ 0
+      → Marks-right (domain M c0 c1 s N w) (domain-answer M c0 c1 s N w (length old) .first) (domain-answer M c0 c1 s N w (length old) .marks)
+  pub listed : domain-answer M c0 c1 s N w (length old) .refusal ≡ 0
+      → domain-answer M c0 c1 s N w (length old) .listed ≡ length (hard-list (domain M c0 c1 s N w))
+  pub cleared : domain-answer M c0 c1 s N w (length old) .refusal ≡ 0 → domain-answer M c0 c1 s N w (length old) .first ≡ Clear
+      → (domain-answer M c0 c1 s N w (length old) .listed ≡ 0) × (domain-left M c0 c1 s N w old ≡ old) × ((x : ℕ) → Hard (domain M c0 c1 s N w) x → ⊥)
+  pub left : domain-answer M c0 c1 s N w (length old) .refusal ≡ 0 → Left-right (hard-list (domain M c0 c1 s N w)) old (domain-left M c0 c1 s N w old)
+
+-- the segment of five numbers, and its scan into a list `old`
+pub record Scan-right (M a b N w : ℕ) (old : List ℕ) : Type 0 where
+  pub refused : (n : ℕ) → (scan-answer M a b N w (length old) ≡ Refused n) ↔ Scan-refused-for (segment M a b N w) (length old) n
+  pub unchanged : (n : ℕ) → scan-answer M a b N w (length old) ≡ Refused n → scan-left M a b N w old ≡ old
+  pub listed : (n : ℕ) → (scan-answer M a b N w (length old) ≡ Listed n)
+      ↔ (segment-specs.Accepted (segment M a b N w) × (length (segment-hard-list (segment M a b N w)) ≤ length old) × (n ≡ length (segment-hard-list (segment M a b N w))))
+  pub left : (n : ℕ) → scan-answer M a b N w (length old) ≡ Listed n → Left-right (segment-hard-list (segment M a b N w)) old (scan-left M a b N w old)
+
+-- ---- all of it
+
+pub record Promised : Type 0 where
+  pub values : (M c0 c1 : ℕ) (s : ℤ) (N w : ℕ) → 0 < M → Values-right M c0 c1 s N w
+  pub hard-lists : (d : Domain) → Accepted d → Lists (Hard d) (how-many (is-hard d) (d .count) 0) (hard-list d)
+  pub segment-lists : (s : Segment) → segment-specs.Accepted s
+      → Lists (segment-specs.Hard s) (how-many (λ x. ltb (residue s x) (s .window)) (s .count) 0) (segment-hard-list s)
+  pub coverings : (d : Domain) → Fair d → Covered d
+  pub parts : (d : Domain) → Accepted d → Parts-right d
+  pub phases : (d : Domain) → Accepted d → Phases-right d
+  pub domains : (M c0 c1 : ℕ) (s : ℤ) (N w : ℕ) (old : List ℕ) → Domain-right M c0 c1 s N w old
+  pub scans : (M a b N w : ℕ) (old : List ℕ) → Scan-right M a b N w old

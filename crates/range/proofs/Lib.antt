@@ -1,0 +1,6 @@
+pub mod Counting
+pub mod Comparing
+pub mod Cases
+pub mod Places
+pub mod Members
+pub mod Promises

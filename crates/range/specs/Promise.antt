@@ -1,0 +1,32 @@
+-- What is promised of the range of a list between lo and hi. proofs/Promises.antt proves `Promised`. Assumes nothing: these are statements.
+use mathlib.Core.Path.{_≡_}
+use mathlib.Core.Bool.{true}
+use mathlib.Core.List.{List, List·Memᴰ}
+use mathlib.Core.Logic.{_↔_}
+use Prim.Native.Nat.{ℕ, _+_, _≤_, _<_}
+use lib.ListN.{length, getD}
+use Rattle.numbers.specs.Lists.{Ascending}
+use Rattle.range.specs.Range.{ascending, below, start-of, count-of, range-of}
+
+-- of a strictly ascending list and lo ≤ hi: before the range the entries are below lo, in it from lo on and below hi, after it from hi on
+pub record Range-right (lo hi : ℕ) (xs : List ℕ) : Type 0 where
+  -- empty or not, it starts just after the entries below lo
+  pub starts : start-of lo hi xs ≡ below lo xs
+  pub before : (i : ℕ) → i < start-of lo hi xs → getD xs i 0 < lo
+  pub inside : (i : ℕ) → start-of lo hi xs ≤ i → i < start-of lo hi xs + count-of lo hi xs → (lo ≤ getD xs i 0) × (getD xs i 0 < hi)
+  pub after : (i : ℕ) → start-of lo hi xs + count-of lo hi xs ≤ i → i < length xs → hi ≤ getD xs i 0
+  -- it has the entries of the list between the bounds, and no others
+  pub exactly : (x : ℕ) → List·Memᴰ x (range-of lo hi xs) ↔ (List·Memᴰ x xs × (lo ≤ x) × (x < hi))
+
+-- empty, at the list's start
+pub record Empty-at-start (lo hi : ℕ) (xs : List ℕ) : Type 0 where
+  pub start : start-of lo hi xs ≡ 0
+  pub count : count-of lo hi xs ≡ 0
+
+pub record Promised : Type 0 where
+  -- the test of each entry against the next one tells whether the list ascends strictly
+  pub ascending-right : (xs : List ℕ) → (ascending xs ≡ true) ↔ Ascending xs
+  pub within : (lo hi : ℕ) (xs : List ℕ) → start-of lo hi xs + count-of lo hi xs ≤ length xs
+  pub range : (lo hi : ℕ) (xs : List ℕ) → Ascending xs → lo ≤ hi → Range-right lo hi xs
+  pub unordered : (lo hi : ℕ) (xs : List ℕ) → (Ascending xs → ⊥) → Empty-at-start lo hi xs
+  pub crossed : (lo hi : ℕ) (xs : List ℕ) → hi < lo → Empty-at-start lo hi xs

@@ -1,0 +1,68 @@
+// The range of a strictly ascending list between two bounds, lo ≤ entry < hi, as a part of that same list (document 01: the cut-out).
+ghost use mathlib.Core.Path.{_≡_};
+ghost use Rattle.range.specs.Range.{ascending, below, start-of, count-of, place-of, Stretch};
+
+// Where the range lies: its first place and how many entries it has.
+pub struct Place {
+    pub start: usize,
+    pub count: usize,
+}
+
+// The entries from lo on and below hi. Where there are none, the empty range just after the entries below lo. Of a list that does not
+// ascend strictly, or where lo is above hi, the empty range at the list's start.
+pub fn range(list: &[u32], lo: u32, hi: u32) -> &[u32]
+    ensures { λ r. ⌜ Stretch 4 (list .entry) r (start-of lo hi (now (list .entry))) (count-of lo hi (now (list .entry))) ⌝ }
+{
+    let at = locate(list, lo, hi);
+    let start = at.start;
+    let end = start + at.count;
+    &list[start..end]
+}
+
+// Where in the list that range lies.
+pub fn locate(list: &[u32], lo: u32, hi: u32) -> Place
+    ensures { λ r. ⌜ r ≡ place-of lo hi (now (list .entry)) ⌝ }
+{
+    if hi < lo {
+        return Place { start: 0, count: 0 };
+    }
+    if is_ascending(list) {
+        let start = count_below(list, lo);
+        let end = count_below(list, hi);
+        return Place {
+            start: start,
+            count: end - start,
+        };
+    }
+    Place { start: 0, count: 0 }
+}
+
+// Whether each entry is less than the next one. It goes on after a pair that is not, so that several pairs are compared at once.
+fn is_ascending(list: &[u32]) -> bool
+    ensures { λ r. ⌜ r ≡ ascending (now (list .entry)) ⌝ }
+{
+    let mut so_far = true;
+    let mut i: usize = 1;
+    while i < list.len() {
+        if list[i] <= list[i - 1] {
+            so_far = false;
+        }
+        i = i + 1;
+    }
+    so_far
+}
+
+// How many entries are below the bound. It goes on after an entry that is not, so that several entries are compared at once.
+fn count_below(list: &[u32], bound: u32) -> usize
+    ensures { λ r. ⌜ r ≡ below bound (now (list .entry)) ⌝ }
+{
+    let mut n: usize = 0;
+    let mut i: usize = 0;
+    while i < list.len() {
+        if list[i] < bound {
+            n = n + 1;
+        }
+        i = i + 1;
+    }
+    n
+}
