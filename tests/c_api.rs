@@ -15,6 +15,12 @@ pub type RegularShown = [u64; 5];
 /// for possible.
 pub type FineShown = [u64; 6];
 
+/// The marks of a domain's eight parts.
+pub type Marks = [u8; 8];
+
+/// What a domain search shows beside the marks: 1 for cleared or 0 for possible, how many arguments it listed.
+pub type Searched = [u64; 2];
+
 // Safe: each is proved for every number, and Rust's references are what their arrays ask for.
 unsafe extern "C" {
     /// The expansion into the caller's memory, or a refusal's number.
@@ -43,4 +49,66 @@ unsafe extern "C" {
     #[link_name = "geyserdish_fine_search"]
     pub safe fn fine_search(modulus: u64, step: u64, start: u64, count: u64, window: u64, shown: &mut FineShown)
         -> u32;
+
+    fn geyserdish_scan_segment(
+        modulus: u64,
+        step: u64,
+        start: u64,
+        count: u64,
+        window: u64,
+        list: *mut u32,
+        places: usize,
+        listed: &mut u64,
+    ) -> u32;
+
+    fn geyserdish_search_domain(
+        modulus: u64,
+        value: u64,
+        slope: u64,
+        curve: i64,
+        count: u64,
+        window: u64,
+        list: *mut u32,
+        places: usize,
+        marks: &mut Marks,
+        searched: &mut Searched,
+    ) -> u32;
+
+    fn geyserdish_range(list: *const u32, length: usize, lo: u32, hi: u32, start: &mut u64) -> u64;
+}
+
+// Safe: a list has as many places as its length says, and nothing overlaps it.
+
+/// The hard arguments of a segment into the caller's list and their number beside it, or a refusal's number.
+pub fn scan_segment(
+    modulus: u64,
+    step: u64,
+    start: u64,
+    count: u64,
+    window: u64,
+    list: &mut [u32],
+    listed: &mut u64,
+) -> u32 {
+    unsafe { geyserdish_scan_segment(modulus, step, start, count, window, list.as_mut_ptr(), list.len(), listed) }
+}
+
+/// The search of a domain into the caller's list and memory, or a refusal's number.
+pub fn search_domain(
+    modulus: u64,
+    value: u64,
+    slope: u64,
+    curve: i64,
+    count: u64,
+    window: u64,
+    list: &mut [u32],
+    marks: &mut Marks,
+    searched: &mut Searched,
+) -> u32 {
+    let (places, list) = (list.len(), list.as_mut_ptr());
+    unsafe { geyserdish_search_domain(modulus, value, slope, curve, count, window, list, places, marks, searched) }
+}
+
+/// The range of a list between two bounds: its start into the caller's memory, and its count.
+pub fn range(list: &[u32], lo: u32, hi: u32, start: &mut u64) -> u64 {
+    unsafe { geyserdish_range(list.as_ptr(), list.len(), lo, hi, start) }
 }

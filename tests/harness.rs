@@ -6,33 +6,60 @@ use std::process::exit;
 
 pub const SEED: u64 = 0x9E37_79B9_7F4A_7C15;
 
+/// A number of the caller's memory, made of 64 bits.
+pub trait Word: Copy + PartialEq {
+    fn of(bits: u64) -> Self;
+}
+
+impl Word for u64 {
+    fn of(bits: u64) -> Self {
+        bits
+    }
+}
+
+impl Word for u32 {
+    fn of(bits: u64) -> Self {
+        (bits >> 32) as u32
+    }
+}
+
+impl Word for u8 {
+    fn of(bits: u64) -> Self {
+        (bits >> 56) as u8
+    }
+}
+
 /// Words of the caller, with canaries before and after the part that is lent.
 #[derive(PartialEq)]
-pub struct Lent {
-    words: Vec<u64>,
+pub struct Lent<W = u64> {
+    words: Vec<W>,
     len: usize,
 }
 
-impl Lent {
+impl<W: Word> Lent<W> {
     const CANARIES: usize = 16;
 
     pub fn new(len: usize, seed: u64) -> Self {
-        let words = (0..len + 2 * Self::CANARIES).map(|i| seed ^ (i as u64).wrapping_mul(SEED)).collect();
+        let words = (0..len + 2 * Self::CANARIES).map(|i| W::of(seed ^ (i as u64).wrapping_mul(SEED))).collect();
         Lent { words, len }
     }
 
-    pub fn part(&self) -> &[u64] {
+    pub fn part(&self) -> &[W] {
         &self.words[Self::CANARIES..Self::CANARIES + self.len]
     }
 
+    /// The part, lent as a list of its length.
+    pub fn lend_list(&mut self) -> &mut [W] {
+        &mut self.words[Self::CANARIES..Self::CANARIES + self.len]
+    }
+
     /// The part, lent as an array of its length.
-    pub fn lend<const N: usize>(&mut self) -> &mut [u64; N] {
-        let part = &mut self.words[Self::CANARIES..Self::CANARIES + self.len];
-        part.try_into().unwrap()
+    pub fn lend<const N: usize>(&mut self) -> &mut [W; N] {
+        self.lend_list().try_into().unwrap()
     }
 
     /// Whether nothing outside the part differs from what it was made with.
-    pub fn canaries_live(&self, made: &Lent) -> bool {
+    pub fn canaries_live(&self, made: &Self) -> bool {
         let (front, back) = (Self::CANARIES, Self::CANARIES + self.len);
         self.words[..front] == made.words[..front] && self.words[back..] == made.words[back..]
     }

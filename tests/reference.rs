@@ -9,12 +9,24 @@ use std::ops::Range;
 /// The largest modulus.
 pub const LARGEST: u64 = 1 << 62;
 
-/// The largest count of a segment.
+/// The largest count.
 pub const MOST: u64 = 1 << 20;
+
+/// The size of the largest curve.
+pub const LARGEST_CURVE: i64 = 1 << 20;
 
 /// The refusal of the table whose conditions are given in its order: the lowest number that applies, 0 where none does.
 pub fn refusal(conditions: &[bool]) -> u32 {
     conditions.iter().position(|&applies| applies).map_or(0, |i| i as u32 + 1)
+}
+
+/// The refusal of a call that lists the hard arguments: its other one, or 7 where they are more than the places.
+pub fn listing_refusal(other: u32, hard: usize, places: usize) -> u32 {
+    if other == 0 && hard > places {
+        7
+    } else {
+        other
+    }
 }
 
 /// The table's condition 1.
@@ -127,4 +139,122 @@ impl Segment {
     pub fn least(&self, range: Range<u64>) -> (u64, u64) {
         range.map(|x| (self.residue(x), x)).min().unwrap()
     }
+
+    /// The configuration that the regular search reaches.
+    pub fn regular_reached(&self) -> Configuration {
+        reached(regular_configurations(&rows(self.modulus, self.step)), self.count)
+    }
+
+    /// The configuration that the fine search reaches.
+    pub fn fine_reached(&self) -> Configuration {
+        reached(fine_configurations(&rows(self.modulus, self.step)), self.count)
+    }
+
+    /// The verdict clear of the search that reaches it: no residue below its count is less than the window.
+    pub fn clear(&self, reached: &Configuration) -> bool {
+        self.least(0..reached.count as u64).0 >= self.window
+    }
+
+    /// The hard arguments, by going through them all.
+    pub fn hard(&self) -> Vec<u32> {
+        (0..self.count).filter(|&x| self.residue(x) < self.window).map(|x| x as u32).collect()
+    }
+}
+
+#[derive(Clone, Copy, Debug)]
+pub struct Domain {
+    pub modulus: u64,
+    pub value: u64,
+    pub slope: u64,
+    pub curve: i64,
+    pub count: u64,
+    pub window: u64,
+}
+
+impl Domain {
+    /// Which of the table's conditions 1 to 6 apply.
+    pub fn conflicts(&self) -> [bool; 6] {
+        [
+            modulus_outside(self.modulus),
+            self.slope >= self.modulus,
+            self.value >= self.modulus,
+            !(8..=MOST).contains(&self.count) || self.count % 8 != 0,
+            self.window > self.modulus,
+            !(-LARGEST_CURVE..=LARGEST_CURVE).contains(&self.curve),
+        ]
+    }
+
+    pub fn refusal(&self) -> u32 {
+        refusal(&self.conflicts())
+    }
+
+    /// A number modulo the modulus.
+    fn reduced(&self, number: i128) -> u64 {
+        number.rem_euclid(self.modulus as i128) as u64
+    }
+
+    /// V(x) = (c0 + c1·x + s·x(x-1)/2) mod M.
+    pub fn value_at(&self, x: u64) -> u64 {
+        let (value, slope, curve, x) = (self.value as i128, self.slope as i128, self.curve as i128, x as i128);
+        self.reduced(value + slope * x + curve * (x * (x - 1) / 2))
+    }
+
+    /// The hard arguments, by going through them all.
+    pub fn hard(&self) -> Vec<u32> {
+        (0..self.count).filter(|&x| self.value_at(x) < self.window).map(|x| x as u32).collect()
+    }
+
+    /// D = |s|·N(N-1)/2.
+    pub fn deviation(&self) -> i128 {
+        let (curve, count) = (self.curve as i128, self.count as i128);
+        curve.abs() * (count * (count - 1) / 2)
+    }
+
+    /// The covering segment.
+    pub fn covering(&self) -> Segment {
+        let deviation = self.deviation();
+        let start = if self.curve >= 0 { self.value as i128 + deviation } else { self.value as i128 };
+        Segment {
+            modulus: self.modulus,
+            step: self.reduced(-(self.slope as i128)),
+            start: self.reduced(start),
+            count: self.count,
+            window: (self.window as i128 + deviation).min(self.modulus as i128) as u64,
+        }
+    }
+
+    /// The eight parts, domains of their own.
+    pub fn parts(&self) -> [Domain; 8] {
+        let count = self.count / 8;
+        [0, 1, 2, 3, 4, 5, 6, 7].map(|part| {
+            let h = part * count;
+            let slope = self.reduced(self.slope as i128 + self.curve as i128 * h as i128);
+            Domain { value: self.value_at(h), slope, count, ..*self }
+        })
+    }
+
+    /// The marks, given whether phase 1 clears the domain: of a part whose covering segment the fine search clears 1, else 2.
+    pub fn marks(&self, cleared: bool) -> [u8; 8] {
+        if cleared {
+            return [0; 8];
+        }
+        self.parts().map(|part| {
+            let covering = part.covering();
+            if covering.clear(&covering.fine_reached()) {
+                1
+            } else {
+                2
+            }
+        })
+    }
+}
+
+/// The range of a list between two bounds (01: the cut-out), as its start and its count.
+pub fn range(list: &[u32], lo: u32, hi: u32) -> (usize, usize) {
+    if lo > hi || !list.windows(2).all(|pair| pair[0] < pair[1]) {
+        return (0, 0);
+    }
+    let below = list.iter().filter(|&&argument| argument < lo).count();
+    let between = list.iter().filter(|&&argument| lo <= argument && argument < hi).count();
+    (below, between)
 }

@@ -2,6 +2,10 @@
 use mathlib.Core.Path.{_≡_, refl, sym}
 use mathlib.Core.List.{List, [], _∷_}
 use Prim.Native.Nat.{ℕ, zero, suc}
+use native.Mathlib.Omega.{arith}
+use lib.ListN.{length, drop, length-take, length-drop}
+use Rattle.range.specs.Range.{start-of, count-of, range-of}
+use Rattle.range.proofs.Promises.{promised}
 use Rattle.expansion.specs.declared.Table.{Table}
 use Rattle.expansion.specs.declared.Answer.{Answer}
 use Rattle.segment.specs.declared.Regular.{Regular}
@@ -11,7 +15,11 @@ use Rattle.segment.specs.declared.RegularAnswer.the-variants as regular-variant
 use Rattle.segment.specs.declared.FineAnswer.{FineAnswer}
 use Rattle.segment.specs.declared.FineAnswer.the-variants as fine-variants
 use Rattle.segment.specs.Answer.{regular-refusal, fine-refusal}
-use Rattle.c_api.specs.Memory.{unless-refused, Delivered, verdict-number, regular-memory, fine-memory}
+use Rattle.domain.specs.declared.ScanAnswer.{ScanAnswer}
+use Rattle.domain.specs.declared.ScanAnswer.the-variants as scan-variants
+use Rattle.domain.specs.declared.DomainAnswer.{DomainAnswer}
+use Rattle.domain.specs.Answer.{scan-refusal}
+use Rattle.c_api.specs.Memory.{unless-refused, Delivered, verdict-number, regular-memory, fine-memory, scan-memory, marks-memory, domain-memory}
 
 unchanged : {A : Type 0} (number : ℕ) (old answered : A) → (number ≡ 0 → ⊥) → old ≡ unless-refused number old answered
 unfolding unless-refused
@@ -46,3 +54,36 @@ module _ {a : FineAnswer} (old : List ℕ) where
       → (0 ≡ fine-refusal a) × (f .count ∷ f .index ∷ f .part ∷ f .distance ∷ f .argument ∷ v ∷ [] ≡ fine-memory a old)
   unfolding fine-refusal fine-memory
   fine-shown e g = rw (e, g) (refl, refl)
+
+-- ---- scans and domains
+
+module _ {a : ScanAnswer} (old : ℕ) where
+  pub scan-refused : {n : ℕ} → a ≡ scan-variants.Refused n → (n ≡ scan-refusal a) × (old ≡ scan-memory a old)
+  unfolding scan-refusal scan-memory
+  scan-refused e = rw e (refl, refl)
+
+  pub scan-listed : {n : ℕ} → a ≡ scan-variants.Listed n → (0 ≡ scan-refusal a) × (n ≡ scan-memory a old)
+  unfolding scan-refusal scan-memory
+  scan-listed e = rw e (refl, refl)
+
+module _ (a : DomainAnswer) (marks searched : List ℕ) where
+  pub domain-refused : (a .refusal ≡ 0 → ⊥) → (marks ≡ marks-memory a marks) × (searched ≡ domain-memory a searched)
+  unfolding marks-memory domain-memory
+  domain-refused h = (unchanged (a .refusal) marks _ h, unchanged (a .refusal) searched _ h)
+
+  pub domain-searched : a .refusal ≡ 0 → {v : ℕ} → v ≡ verdict-number (a .first)
+      → (a .marks ≡ marks-memory a marks) × (v ∷ a .listed ∷ [] ≡ domain-memory a searched)
+  unfolding marks-memory domain-memory unless-refused
+  domain-searched h e = rw (h, e) (refl, refl)
+
+-- ---- the range of a list
+
+-- it has as many entries as are told
+pub range-length : (lo hi : ℕ) (xs : List ℕ) → length (range-of lo hi xs) ≡ count-of lo hi xs
+range-length lo hi xs =
+    omega (
+      arith,
+      length-take (count-of lo hi xs) (drop (start-of lo hi xs) xs),
+      promised .within lo hi xs,
+      length-drop (start-of lo hi xs) xs,
+    )

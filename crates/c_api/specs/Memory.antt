@@ -10,6 +10,9 @@ use Rattle.segment.specs.declared.RegularAnswer.{RegularAnswer}
 use Rattle.segment.specs.declared.RegularAnswer.the-variants as regular-variants
 use Rattle.segment.specs.declared.FineAnswer.{FineAnswer}
 use Rattle.segment.specs.declared.FineAnswer.the-variants as fine-variants
+use Rattle.domain.specs.declared.ScanAnswer.{ScanAnswer}
+use Rattle.domain.specs.declared.ScanAnswer.the-variants as scan-variants
+use Rattle.domain.specs.declared.DomainAnswer.{DomainAnswer}
 
 -- on a refusal what was there, else what is answered
 unfoldable pub unless-refused : {A : Type 0} → (refusal : ℕ) → (old answered : A) → A
@@ -39,3 +42,16 @@ regular-memory (regular-variants.Shown r) old = r .count ∷ r .quotients ∷ r 
 unfoldable pub fine-memory : FineAnswer → (old : List ℕ) → List ℕ
 fine-memory (fine-variants.Refused n) old = old
 fine-memory (fine-variants.Shown f) old = f .count ∷ f .index ∷ f .part ∷ f .distance ∷ f .argument ∷ verdict-number (f .verdict) ∷ []
+
+-- the number that a scan leaves: how many it listed, or what was there
+unfoldable pub scan-memory : ScanAnswer → (old : ℕ) → ℕ
+scan-memory (scan-variants.Refused n) old = old
+scan-memory (scan-variants.Listed n) old = n
+
+-- the marks that a domain search leaves, or what was there
+unfoldable pub marks-memory : DomainAnswer → (old : List ℕ) → List ℕ
+marks-memory a old = unless-refused (a .refusal) old (a .marks)
+
+-- the two numbers that it leaves: phase 1's verdict and how many arguments are listed
+unfoldable pub domain-memory : DomainAnswer → (old : List ℕ) → List ℕ
+domain-memory a old = unless-refused (a .refusal) old (verdict-number (a .first) ∷ a .listed ∷ [])

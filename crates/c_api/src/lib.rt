@@ -1,9 +1,12 @@
 // The calls as C functions: numbers in, the answer into the caller's memory. Each contract is by the definitions of the call itself.
 // A pointer that is passed points to as many numbers as its array type says, and no two of them overlap: that is C's side to keep.
 ghost use mathlib.Core.Path.{_≡_};
+ghost use lib.ListN.{length};
 ghost use Rattle.expansion.specs.Answer.{answer};
 ghost use Rattle.segment.specs.Answer.{regular-answer, fine-answer, regular-refusal, fine-refusal};
-ghost use Rattle.c_api.specs.Memory.{memory, Delivered, verdict-number, regular-memory, fine-memory};
+ghost use Rattle.domain.specs.Answer.{scan-answer, scan-left, scan-refusal, domain-answer, domain-left};
+ghost use Rattle.range.specs.Range.{start-of, count-of};
+ghost use Rattle.c_api.specs.Memory.{memory, Delivered, verdict-number, regular-memory, fine-memory, scan-memory, marks-memory, domain-memory};
 
 // expansion::expand: returns 0 or the refusal. The table's columns and its last row's index are left as they were on a refusal.
 #[no_mangle]
@@ -93,6 +96,73 @@ pub extern "C" fn geyserdish_fine_search(
             0
         }
     }
+}
+
+// domain::scan_segment: returns 0 or the refusal. Listed: how many hard arguments are in the list. Both are left as they were on a refusal.
+#[no_mangle]
+pub extern "C" fn geyserdish_scan_segment(
+    modulus: u64,
+    step: u64,
+    start: u64,
+    count: u64,
+    window: u64,
+    list: &mut [u32],
+    listed: &mut u64,
+) -> u32
+    ensures { λ r. ⌜ r ≡ scan-refusal (scan-answer modulus step start count window (length (now (list .entry)))) ⌝ }
+    ensures { λ r. ⌜ now (list .exit) ≡ scan-left modulus step start count window (now (list .entry)) ⌝ }
+    ensures { λ r. ⌜ now (listed .exit) ≡ scan-memory (scan-answer modulus step start count window (length (now (list .entry)))) (now (listed .entry)) ⌝ }
+{
+    match domain::scan_segment(modulus, step, start, count, window, list) {
+        domain::ScanAnswer::Refused(number) => number,
+        domain::ScanAnswer::Listed(number) => {
+            *listed = number as u64;
+            0
+        }
+    }
+}
+
+// domain::search_domain: returns 0 or the refusal. Marks: one for each of the eight parts. Searched: 1 for cleared or 0 for possible, and how
+// many hard arguments are in the list. All three are left as they were on a refusal.
+#[no_mangle]
+pub extern "C" fn geyserdish_search_domain(
+    modulus: u64,
+    value: u64,
+    slope: u64,
+    curve: i64,
+    count: u64,
+    window: u64,
+    list: &mut [u32],
+    marks: &mut [u8; 8],
+    searched: &mut [u64; 2],
+) -> u32
+    ensures { λ r. ⌜ r ≡ domain-answer modulus value slope curve count window (length (now (list .entry))) .refusal ⌝ }
+    ensures { λ r. ⌜ now (list .exit) ≡ domain-left modulus value slope curve count window (now (list .entry)) ⌝ }
+    ensures { λ r. ⌜ now (marks .exit) ≡ marks-memory (domain-answer modulus value slope curve count window (length (now (list .entry)))) (now (marks .entry)) ⌝ }
+    ensures { λ r. ⌜ now (searched .exit) ≡ domain-memory (domain-answer modulus value slope curve count window (length (now (list .entry)))) (now (searched .entry)) ⌝ }
+{
+    let answer = domain::search_domain(modulus, value, slope, curve, count, window, list);
+    let refusal = answer.refusal;
+    if refusal != 0 {
+        return refusal;
+    }
+    let all = answer.marks;
+    *marks = all;
+    let first = answer.first;
+    *searched = [number_of(first), answer.listed as u64];
+    0
+}
+
+// range::range: returns how many entries the range has, and leaves in start where it begins in the list.
+#[no_mangle]
+pub extern "C" fn geyserdish_range(list: &[u32], lo: u32, hi: u32, start: &mut u64) -> u64
+    ensures { λ r. ⌜ r ≡ count-of lo hi (now (list .entry)) ⌝ }
+    ensures { λ r. ⌜ now (start .exit) ≡ start-of lo hi (now (list .entry)) ⌝ }
+{
+    let place = range::locate(list, lo, hi);
+    *start = place.start as u64;
+    let part = range::range(list, lo, hi);
+    part.len() as u64
 }
 
 fn number_of(verdict: segment::Verdict) -> u64

@@ -1,0 +1,349 @@
+//! Searches of domains and scans: the proved calls against unverified Rust. First domains with a modulus from 2^61 to 2^62: those
+//! that phase 1 clears, also beside the proved regular search of their covering segments alone, and domains as they come. Then one
+//! pass of a scan, for each argument, against loops that only count.
+//!
+//! For comparison: slides 004 imply 248 ns a domain (34,040 s for 2^37 domains on one core of 2010).
+
+#[path = "../tests/c_api.rs"]
+mod c_api;
+mod common;
+mod same;
+#[allow(dead_code)]
+mod tuned;
+
+use c_api::{Marks, Searched};
+use common::median;
+use std::hint::black_box;
+use std::time::Instant;
+
+/// Too many for a branch predictor to learn the way of each, and not too many for the cache.
+const DOMAINS: usize = 32_768;
+const REPETITIONS: usize = 61;
+
+/// The places that the job program has.
+const PLACES: usize = 4096;
+
+#[derive(Clone, Copy)]
+struct Segment {
+    modulus: u64,
+    step: u64,
+    start: u64,
+    count: u64,
+    window: u64,
+}
+
+#[derive(Clone, Copy)]
+struct Domain {
+    modulus: u64,
+    value: u64,
+    slope: u64,
+    curve: i64,
+    count: u64,
+    window: u64,
+}
+
+impl Domain {
+    #[inline(always)]
+    fn deviation(&self) -> u64 {
+        self.curve.unsigned_abs() * (self.count * (self.count - 1) / 2)
+    }
+
+    #[inline(always)]
+    fn covering(&self) -> Segment {
+        let deviation = self.deviation();
+        Segment {
+            modulus: self.modulus,
+            step: if self.slope == 0 { 0 } else { self.modulus - self.slope },
+            start: if self.curve < 0 { self.value } else { (self.value + deviation) % self.modulus },
+            count: self.count,
+            window: self.modulus.min(self.window + deviation),
+        }
+    }
+
+    /// The part that begins at h.
+    fn part(&self, h: u64) -> Domain {
+        let reduced = |number: i128| number.rem_euclid(self.modulus as i128) as u64;
+        let (value, slope, curve, x) = (self.value as i128, self.slope as i128, self.curve as i128, h as i128);
+        Domain {
+            value: reduced(value + slope * x + curve * (x * (x - 1) / 2)),
+            slope: reduced(slope + curve * x),
+            count: self.count / 8,
+            ..*self
+        }
+    }
+
+    /// Shows the hard arguments one by one.
+    #[inline(always)]
+    fn scan(&self, mut hard: impl FnMut(u64)) {
+        let (mut value, mut slope) = (self.value, self.slope);
+        let curve = self.curve.rem_euclid(self.modulus as i64) as u64;
+        for x in 0..self.count {
+            if value < self.window {
+                hard(x);
+            }
+            value = add_and_correct(value, slope, self.modulus);
+            slope = add_and_correct(slope, curve, self.modulus);
+        }
+    }
+}
+
+/// The sum modulo the modulus.
+#[inline(always)]
+fn add_and_correct(a: u64, b: u64, modulus: u64) -> u64 {
+    let sum = a + b;
+    if sum >= modulus {
+        sum - modulus
+    } else {
+        sum
+    }
+}
+
+/// The same, comparing first, so that the comparison doesn't wait for the sum.
+#[inline(always)]
+fn compare_and_add(a: u64, b: u64, modulus: u64) -> u64 {
+    let left = modulus - b;
+    if a < left {
+        a + b
+    } else {
+        a - left
+    }
+}
+
+/// The search of a domain as document 01 has it, plainly and unverified.
+#[inline(never)]
+fn search(domain: &Domain, list: &mut [u32], marks: &mut Marks, searched: &mut Searched) -> u32 {
+    let Domain { modulus, value, slope, curve, count, window } = *domain;
+    let refusal = tuned::refusal(modulus, slope, value, count, window);
+    if (1..=3).contains(&refusal) {
+        return refusal;
+    }
+    if refusal == 4 || count < 8 || count % 8 != 0 {
+        return 4;
+    }
+    if refusal != 0 {
+        return refusal;
+    }
+    if curve < -(1 << 20) || curve > 1 << 20 {
+        return 6;
+    }
+    let (covering, mut shown) = (domain.covering(), [0; 5]);
+    same::regular(modulus, covering.step, covering.start, count, covering.window, &mut shown);
+    if shown[4] == 1 {
+        *marks = [0; 8];
+        *searched = [1, 0];
+        return 0;
+    }
+    search_parts(domain, list, marks, searched)
+}
+
+/// Phases 2 and 3.
+#[inline(never)]
+fn search_parts(domain: &Domain, list: &mut [u32], marks: &mut Marks, searched: &mut Searched) -> u32 {
+    let eighth = domain.count / 8;
+    let (mut found, mut hard) = ([1; 8], 0);
+    for (h, mark) in (0..).step_by(eighth as usize).zip(&mut found) {
+        let part = domain.part(h);
+        let (covering, mut shown) = (part.covering(), [0; 6]);
+        same::fine(part.modulus, covering.step, covering.start, eighth, covering.window, &mut shown);
+        if shown[5] == 0 {
+            *mark = 2;
+            part.scan(|_| hard += 1);
+        }
+    }
+    if hard > list.len() {
+        return 7;
+    }
+    if hard > 0 {
+        let mut places = list.iter_mut();
+        for (h, _) in (0..).step_by(eighth as usize).zip(&found).filter(|(_, &mark)| mark == 2) {
+            domain.part(h).scan(|x| *places.next().unwrap() = (h + x) as u32);
+        }
+    }
+    *marks = found;
+    *searched = [0, hard as u64];
+    0
+}
+
+/// The memory that the calls are lent.
+struct Memory {
+    list: [u32; PLACES],
+    marks: Marks,
+    searched: Searched,
+    shown: [u64; 5],
+    listed: u64,
+}
+
+impl Memory {
+    fn new() -> Self {
+        Memory { list: [0; PLACES], marks: [0; 8], searched: [0; 2], shown: [0; 5], listed: 0 }
+    }
+}
+
+fn proved(domain: &Domain, to: &mut Memory) -> u32 {
+    let Domain { modulus, value, slope, curve, count, window } = *domain;
+    c_api::search_domain(modulus, value, slope, curve, count, window, &mut to.list, &mut to.marks, &mut to.searched)
+}
+
+fn proved_regular(segment: &Segment, to: &mut Memory) -> u32 {
+    let Segment { modulus, step, start, count, window } = *segment;
+    c_api::regular_search(modulus, step, start, count, window, &mut to.shown)
+}
+
+fn proved_scan(segment: &Segment, to: &mut Memory) -> u32 {
+    let Segment { modulus, step, start, count, window } = *segment;
+    c_api::scan_segment(modulus, step, start, count, window, &mut to.list, &mut to.listed)
+}
+
+fn unverified(domain: &Domain, to: &mut Memory) -> u32 {
+    search(domain, &mut to.list, &mut to.marks, &mut to.searched)
+}
+
+/// Nanoseconds for each of the inputs.
+fn nanoseconds<I, A>(inputs: &[I], memory: &mut Memory, call: impl Fn(&I, &mut Memory) -> A) -> f64 {
+    let start = Instant::now();
+    for input in inputs {
+        black_box(call(input, memory));
+        black_box(&*memory);
+    }
+    start.elapsed().as_secs_f64() * 1e9 / inputs.len() as f64
+}
+
+/// Times the proved call and the others in each repetition, so that what disturbs the machine meets all of them; prints medians, of
+/// the times and of the ratios within a repetition. A time is divided by the number of arguments given.
+fn measure<const N: usize>(names: [&str; N], arguments: u64, mut times: impl FnMut() -> (f64, [f64; N])) {
+    let times: Vec<(f64, [f64; N])> = (0..REPETITIONS).map(|_| times()).collect();
+    let digits = if arguments == 1 { 1 } else { 3 };
+    for (other, name) in names.iter().enumerate() {
+        let proved_time = median(times.iter().map(|t| t.0)) / arguments as f64;
+        let other_time = median(times.iter().map(|t| t.1[other])) / arguments as f64;
+        let ratio = median(times.iter().map(|t| t.0 / t.1[other]));
+        println!("{name}\t{proved_time:.digits$}\t{other_time:.digits$}\t{ratio:.3}");
+    }
+}
+
+/// What a search answers to a domain.
+fn answer(search: fn(&Domain, &mut Memory) -> u32, domain: &Domain) -> (u32, Searched, Marks, Vec<u32>) {
+    let mut memory = Memory::new();
+    (search(domain, &mut memory), memory.searched, memory.marks, memory.list.to_vec())
+}
+
+fn is_cleared(domain: &Domain) -> bool {
+    answer(proved, domain).1[0] == 1
+}
+
+/// Domains of count 2^15 with small curves of either sign, and windows such that phase 1 leaves about one of a thousand not clear.
+fn domains(number: usize) -> Vec<Domain> {
+    let small = |random: u64| (random % 17) as i64 - 8;
+    common::lines(number)
+        .iter()
+        .map(|&[modulus, slope, value]| {
+            let domain = Domain { modulus, value, slope, curve: small(value), count: 1 << 15, window: 0 };
+            Domain { window: (modulus >> 28) - domain.deviation(), ..domain }
+        })
+        .collect()
+}
+
+/// Domains that phase 1 clears: beside one proved regular search of each covering segment, and beside unverified Rust.
+fn cleared_domains(domains: &[Domain]) {
+    let (coverings, mut memory) = (domains.iter().map(Domain::covering).collect::<Vec<_>>(), Memory::new());
+    let names = ["cleared domain N=2^15, beside one proved regular search", "cleared domain N=2^15"];
+    measure(names, 1, || {
+        let proved = nanoseconds(domains, &mut memory, proved);
+        let regular = nanoseconds(&coverings, &mut memory, proved_regular);
+        (proved, [regular, nanoseconds(domains, &mut memory, unverified)])
+    });
+}
+
+/// Domains as they come, some of which go to phase 2.
+fn mixed_domains(domains: &[Domain]) {
+    let mut memory = Memory::new();
+    let possible = domains.iter().filter(|domain| !is_cleared(domain)).count();
+    let name = format!("domains N=2^15, {possible} of {} to phase 2", domains.len());
+    measure([&name], 1, || {
+        let proved = nanoseconds(domains, &mut memory, proved);
+        (proved, [nanoseconds(domains, &mut memory, unverified)])
+    });
+}
+
+/// Counts the hard arguments of a segment, or of a domain, by a loop over them all.
+#[inline(never)]
+fn count_segment(segment: &Segment, add: impl Fn(u64, u64, u64) -> u64) -> u64 {
+    let Segment { modulus, step, start, count, window } = *segment;
+    let (mut value, mut hard) = (start, 0);
+    let slope = if step == 0 { 0 } else { modulus - step };
+    for _ in 0..count {
+        hard += (value < window) as u64;
+        value = add(value, slope, modulus);
+    }
+    hard
+}
+
+#[inline(never)]
+fn count_domain(domain: &Domain, add: impl Fn(u64, u64, u64) -> u64) -> u64 {
+    let Domain { modulus, value, slope, curve, count, window } = *domain;
+    let (mut value, mut slope, mut hard) = (value, slope, 0);
+    let curve = curve.rem_euclid(modulus as i64) as u64;
+    for _ in 0..count {
+        hard += (value < window) as u64;
+        value = add(value, slope, modulus);
+        slope = add(slope, curve, modulus);
+    }
+    hard
+}
+
+/// Scans of segments of which no argument is hard, so that none is listed: one pass.
+fn scans() {
+    let mut memory = Memory::new();
+    let segments: Vec<Segment> = common::lines(4)
+        .iter()
+        .map(|&[modulus, step, start]| Segment { modulus, step, start, count: 1 << 20, window: 1 })
+        .collect();
+    for segment in &segments {
+        assert_eq!((proved_scan(segment, &mut memory), memory.listed), (0, 0));
+    }
+    let name = "scan pass, per argument N=2^20";
+    measure([name, &format!("{name}, comparing first")], 1 << 20, || {
+        let proved = nanoseconds(&segments, &mut memory, proved_scan);
+        let plain = nanoseconds(&segments, &mut memory, |segment, _| count_segment(segment, add_and_correct));
+        let comparing_first = nanoseconds(&segments, &mut memory, |segment, _| count_segment(segment, compare_and_add));
+        (proved, [plain, comparing_first])
+    });
+}
+
+/// Domains with curves so large that the window of every covering segment is the modulus: all eight parts are scanned, with no
+/// argument hard.
+fn domain_scans() {
+    let mut memory = Memory::new();
+    let domains: Vec<Domain> = common::lines(4)
+        .iter()
+        .zip([1 << 20, -(1 << 20)].iter().cycle())
+        .map(|(&[modulus, slope, value], &curve)| {
+            let modulus = modulus >> 10;
+            Domain { modulus, value: value % modulus, slope: slope % modulus, curve, count: 1 << 20, window: 1 }
+        })
+        .collect();
+    for domain in &domains {
+        assert_eq!((proved(domain, &mut memory), memory.searched, memory.marks), (0, [0, 0], [2; 8]));
+    }
+    let name = "all parts scanned, per argument N=2^20";
+    measure([name, &format!("{name}, comparing first")], 1 << 20, || {
+        let proved = nanoseconds(&domains, &mut memory, proved);
+        let plain = nanoseconds(&domains, &mut memory, |domain, _| count_domain(domain, add_and_correct));
+        let comparing_first = nanoseconds(&domains, &mut memory, |domain, _| count_domain(domain, compare_and_add));
+        (proved, [plain, comparing_first])
+    });
+}
+
+fn main() {
+    let domains = domains(DOMAINS + DOMAINS / 16);
+    // Unverified code that answers otherwise would not be worth a comparison.
+    for domain in &domains {
+        assert_eq!(answer(proved, domain), answer(unverified, domain));
+    }
+    let cleared: Vec<Domain> = domains.iter().copied().filter(is_cleared).take(DOMAINS).collect();
+    assert_eq!(cleared.len(), DOMAINS);
+    cleared_domains(&cleared);
+    mixed_domains(&domains[..DOMAINS]);
+    scans();
+    domain_scans();
+}

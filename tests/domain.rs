@@ -1,0 +1,762 @@
+//! Scans of segments, searches of domains and ranges of lists against a reference written from document 01 alone, which goes
+//! through the arguments: every small domain, random and extreme ones, refusals, the settled examples, with canaries around the
+//! caller's memory.
+
+mod c_api;
+mod harness;
+mod reference;
+
+use harness::{Lent, Random, Run, SEED};
+use reference::{Domain, Segment, LARGEST, LARGEST_CURVE, MOST};
+use std::collections::HashSet;
+use std::fmt;
+
+/// The arguments that most tests go through at most for the verdict of phase 1, and those that a few go through.
+const THROUGH: u64 = 1 << 14;
+const FAR_THROUGH: u64 = 1 << 22;
+
+/// Places for every argument of a small count.
+const PLENTY: usize = 40;
+
+/// The caller's memory: a list, and marks and numbers beside it.
+#[derive(PartialEq)]
+struct Memory {
+    list: Lent<u32>,
+    marks: Lent<u8>,
+    numbers: Lent,
+}
+
+impl Memory {
+    fn new(places: usize, marks: usize, numbers: usize) -> Self {
+        Memory { list: Lent::new(places, 1), marks: Lent::new(marks, 3), numbers: Lent::new(numbers, 2) }
+    }
+
+    fn canaries_live(&self, made: &Memory) -> bool {
+        self.list.canaries_live(&made.list)
+            && self.marks.canaries_live(&made.marks)
+            && self.numbers.canaries_live(&made.numbers)
+    }
+}
+
+/// A call that lists hard arguments.
+trait Listing: fmt::Debug {
+    /// How many marks and numbers it shows beside the list.
+    const MARKS: usize;
+    const NUMBERS: usize;
+
+    /// The refusal by the reference, whatever the places are.
+    fn other_refusal(&self) -> u32;
+
+    fn call(&self, memory: &mut Memory) -> u32;
+
+    fn wrong<T>(&self, what: &str) -> Result<T, String> {
+        Err(format!("{self:?}: {what}"))
+    }
+}
+
+impl Listing for Segment {
+    const MARKS: usize = 0;
+    const NUMBERS: usize = 1;
+
+    fn other_refusal(&self) -> u32 {
+        self.refusal()
+    }
+
+    fn call(&self, memory: &mut Memory) -> u32 {
+        let (list, [listed]) = (memory.list.lend_list(), memory.numbers.lend());
+        c_api::scan_segment(self.modulus, self.step, self.start, self.count, self.window, list, listed)
+    }
+}
+
+impl Listing for Domain {
+    const MARKS: usize = 8;
+    const NUMBERS: usize = 2;
+
+    fn other_refusal(&self) -> u32 {
+        self.refusal()
+    }
+
+    fn call(&self, memory: &mut Memory) -> u32 {
+        let Domain { modulus, value, slope, curve, count, window } = *self;
+        let (list, marks, searched) = (memory.list.lend_list(), memory.marks.lend(), memory.numbers.lend());
+        c_api::search_domain(modulus, value, slope, curve, count, window, list, marks, searched)
+    }
+}
+
+/// What a call shows beside the list.
+struct Shown<'a> {
+    marks: &'a [u8],
+    numbers: &'a [u64],
+}
+
+/// Nothing is shown of what is refused.
+const NOTHING: Shown = Shown { marks: &[], numbers: &[] };
+
+/// Calls with so many places; the refusal and all of the memory have to be as the list, the marks and the numbers say.
+fn check_places<L: Listing>(input: &L, places: usize, list: &[u32], shown: &Shown) -> Result<(), String> {
+    let [made, mut lent, mut wanted] = [(); 3].map(|_| Memory::new(places, L::MARKS, L::NUMBERS));
+    let refusal = reference::listing_refusal(input.other_refusal(), list.len(), places);
+    let number = input.call(&mut lent);
+    if number != refusal {
+        return input.wrong(&format!("refusal {number} for {refusal} with {places} places"));
+    }
+    if !lent.canaries_live(&made) {
+        return input.wrong(&format!("written outside the caller's memory with {places} places"));
+    }
+    if refusal == 0 {
+        wanted.list.lend_list()[..list.len()].copy_from_slice(list);
+        wanted.marks.lend_list().copy_from_slice(shown.marks);
+        wanted.numbers.lend_list().copy_from_slice(shown.numbers);
+    }
+    if lent == wanted {
+        return Ok(());
+    }
+    if refusal != 0 {
+        return input.wrong(&format!("memory changed on refusal {refusal}"));
+    }
+    let (has, has_marks) = (lent.numbers.part(), lent.marks.part());
+    let Shown { marks, numbers } = shown;
+    let at = lent.list.part().iter().zip(wanted.list.part()).position(|(a, b)| a != b);
+    input.wrong(&format!(
+        "{has:?} for {numbers:?}, marks {has_marks:?} for {marks:?}; the list of {} differs first at {at:?}",
+        list.len()
+    ))
+}
+
+/// Calls with as many places as the list needs, with more, with one too few and with none.
+fn check<L: Listing>(input: &L, list: &[u32], shown: &Shown) -> Result<(), String> {
+    let needed = list.len();
+    let mut places = vec![needed, needed + 3, needed.saturating_sub(1), 0];
+    places.sort();
+    places.dedup();
+    places.iter().try_for_each(|&places| check_places(input, places, list, shown))
+}
+
+/// Calls with no places, a few and many: refused by what is beside them.
+fn check_refused(input: &impl Listing) -> Result<(), String> {
+    [0, 1, PLENTY].iter().try_for_each(|&places| check_places(input, places, &[], &NOTHING))
+}
+
+/// How many inputs were accepted, of those how many were compared in full (the arguments below the count that phase 1 reaches were
+/// gone through), and how many were refused; and what was answered.
+#[derive(Default)]
+struct Tally {
+    accepted: usize,
+    full: usize,
+    refused: usize,
+    cleared: usize,
+    clear_parts: usize,
+    scanned_parts: usize,
+    listed: usize,
+}
+
+impl Tally {
+    fn add(&mut self, other: &Tally) {
+        self.accepted += other.accepted;
+        self.full += other.full;
+        self.refused += other.refused;
+        self.cleared += other.cleared;
+        self.clear_parts += other.clear_parts;
+        self.scanned_parts += other.scanned_parts;
+        self.listed += other.listed;
+    }
+}
+
+impl fmt::Display for Tally {
+    fn fmt(&self, f: &mut fmt::Formatter) -> fmt::Result {
+        write!(f, "{} accepted, {} of them in full", self.accepted, self.full)?;
+        if self.cleared + self.clear_parts + self.scanned_parts != 0 {
+            write!(f, ", {} cleared", self.cleared)?;
+            write!(f, ", {} parts clear and {} scanned", self.clear_parts, self.scanned_parts)?;
+        }
+        write!(f, ", {} listed", self.listed)?;
+        if self.refused != 0 {
+            write!(f, "; {} refused", self.refused)?;
+        }
+        Ok(())
+    }
+}
+
+/// The verdict clear of the proved searches, which are compared with the reference in a program of their own.
+fn regular_clear(s: &Segment) -> bool {
+    let mut shown = [0; 5];
+    c_api::regular_search(s.modulus, s.step, s.start, s.count, s.window, &mut shown) == 0 && shown[4] == 1
+}
+
+fn fine_clear(s: &Segment) -> bool {
+    let mut shown = [0; 6];
+    c_api::fine_search(s.modulus, s.step, s.start, s.count, s.window, &mut shown) == 0 && shown[5] == 1
+}
+
+/// Compares a domain with the reference; goes through at most so many arguments for the verdict of phase 1, for which the proved
+/// regular search stands in where they are more.
+fn compare(domain: &Domain, through: u64, tally: &mut Tally) -> Result<(), String> {
+    if domain.refusal() != 0 {
+        tally.refused += 1;
+        return check_refused(domain);
+    }
+    let (covering, parts) = (domain.covering(), domain.parts());
+    let reached = covering.regular_reached();
+    let full = reached.count <= through as u128;
+    let cleared = if full { covering.clear(&reached) } else { regular_clear(&covering) };
+    let (marks, list) = (domain.marks(cleared), domain.hard());
+    let agree = |(mark, part): (&u8, &Domain)| *mark == if fine_clear(&part.covering()) { 1 } else { 2 };
+    if cleared != regular_clear(&covering) || !cleared && !marks.iter().zip(&parts).all(agree) {
+        return domain.wrong("the proved searches of the covering segments answer otherwise");
+    }
+    if list.iter().any(|&x| marks[(x as u64 * 8 / domain.count) as usize] != 2) {
+        return domain.wrong("hard where the reference clears");
+    }
+    check(domain, &list, &Shown { marks: &marks, numbers: &[cleared as u64, list.len() as u64] })?;
+    tally.accepted += 1;
+    tally.full += full as usize;
+    tally.cleared += cleared as usize;
+    tally.clear_parts += marks.iter().filter(|&&mark| mark == 1).count();
+    tally.scanned_parts += marks.iter().filter(|&&mark| mark == 2).count();
+    tally.listed += list.len();
+    Ok(())
+}
+
+fn compare_scan(segment: &Segment, tally: &mut Tally) -> Result<(), String> {
+    if segment.refusal() != 0 {
+        tally.refused += 1;
+        return check_refused(segment);
+    }
+    let list = segment.hard();
+    check(segment, &list, &Shown { marks: &[], numbers: &[list.len() as u64] })?;
+    tally.accepted += 1;
+    tally.full += 1;
+    tally.listed += list.len();
+    Ok(())
+}
+
+fn all(through: u64, domains: impl IntoIterator<Item = Domain>) -> Result<Tally, String> {
+    let mut tally = Tally::default();
+    for domain in domains {
+        compare(&domain, through, &mut tally)?;
+    }
+    Ok(tally)
+}
+
+fn all_scans(segments: impl IntoIterator<Item = Segment>) -> Result<Tally, String> {
+    let mut tally = Tally::default();
+    for segment in segments {
+        compare_scan(&segment, &mut tally)?;
+    }
+    Ok(tally)
+}
+
+/// Compares so many random domains, made of their own seed.
+fn random_domains(own: u64, times: usize, make: impl Fn(&mut Random, usize) -> Domain) -> Result<Tally, String> {
+    let mut random = Random(SEED + own);
+    all(THROUGH, (0..times).map(|i| make(&mut random, i)))
+}
+
+/// A number from 1 to the given one, of any size as likely as of another.
+fn sized(random: &mut Random, most: u64) -> u64 {
+    let number = 1 + random.below(most);
+    (number >> random.below(most.ilog2() as u64 + 1)).max(1)
+}
+
+fn one_of<T: Copy>(random: &mut Random, from: &[T]) -> T {
+    from[random.below(from.len() as u64) as usize]
+}
+
+/// A size with either sign.
+fn signed(random: &mut Random, size: u64) -> i64 {
+    one_of(random, &[size as i64, -(size as i64)])
+}
+
+/// Windows dense and sparse.
+fn window(random: &mut Random, modulus: u64, count: u64) -> u64 {
+    let (even, sparse) = (random.below(modulus + 1), random.below(modulus / count + 1));
+    one_of(random, &[0, 1, modulus, even, sparse, sparse, sparse / 8, sparse / 8])
+}
+
+/// Curves of any size, none, and mostly such that a search may clear the domain or some of its parts: with D below the modulus
+/// divided by the count.
+fn curve(random: &mut Random, modulus: u64, count: u64) -> i64 {
+    let clearing = modulus as u128 * 16 / (count as u128).pow(3);
+    let clearing = random.below(clearing.min(LARGEST_CURVE as u128) as u64 + 1);
+    let any = sized(random, LARGEST_CURVE as u64);
+    let size = one_of(random, &[0, 1, any, clearing, clearing / 8, clearing / 64]);
+    signed(random, size)
+}
+
+/// A random value, slope, curve and window beside what is given.
+fn somewhere(random: &mut Random, modulus: u64, count: u64) -> Domain {
+    let (value, slope) = (random.below(modulus), random.below(modulus));
+    let (curve, window) = (curve(random, modulus, count), window(random, modulus, count));
+    Domain { modulus, value, slope, curve, count, window }
+}
+
+fn random_count(random: &mut Random, eighth: u64) -> u64 {
+    8 * sized(random, eighth)
+}
+
+fn domain(modulus: u64, value: u64, slope: u64, curve: i64, count: u64, window: u64) -> Domain {
+    Domain { modulus, value, slope, curve, count, window }
+}
+
+fn segment([modulus, step, start, count, window]: [u64; 5]) -> Segment {
+    Segment { modulus, step, start, count, window }
+}
+
+fn every_small_domain() -> Result<Tally, String> {
+    let mut domains = Vec::new();
+    for modulus in 2..=8 {
+        for (value, slope) in (0..modulus).flat_map(|value| (0..modulus).map(move |slope| (value, slope))) {
+            for (curve, count) in [-9, -1, 0, 1, 2].iter().flat_map(|&s| [8, 16, 24].map(|n| (s, n))) {
+                domains.extend((0..=modulus).map(|window| domain(modulus, value, slope, curve, count, window)));
+            }
+        }
+    }
+    all(THROUGH, domains)
+}
+
+fn random_small_moduli() -> Result<Tally, String> {
+    random_domains(0, 40_000, |random, _| {
+        let (modulus, count) = (2 + random.below(4096), random_count(random, 32));
+        somewhere(random, modulus, count)
+    })
+}
+
+fn random_moduli_of_every_size() -> Result<Tally, String> {
+    random_domains(1, 40_000, |random, _| {
+        let (modulus, count) = (1 + sized(random, LARGEST - 1), random_count(random, 64));
+        somewhere(random, modulus, count)
+    })
+}
+
+fn random_large_moduli() -> Result<Tally, String> {
+    random_domains(2, 10_000, |random, _| {
+        let (modulus, count) = (LARGEST - random.below(LARGEST / 2 + 1), random_count(random, 128));
+        somewhere(random, modulus, count)
+    })
+}
+
+fn curves_above_the_modulus() -> Result<Tally, String> {
+    random_domains(3, 8_000, |random, _| {
+        let (modulus, count) = (1 + sized(random, MOST - 1), random_count(random, 16));
+        let size = modulus + random.below(MOST - modulus + 1);
+        let window = one_of(random, &[0, 1, modulus / 5, modulus]);
+        Domain { curve: signed(random, size), window, ..somewhere(random, modulus, count) }
+    })
+}
+
+/// Slopes and values with a divisor in common with the modulus, so that the period of the covering segment is short.
+fn common_divisors() -> Result<Tally, String> {
+    random_domains(4, 10_000, |random, i| {
+        let (period, count) = (2 + random.below(600), random_count(random, 32));
+        let divisor = sized(random, LARGEST / period);
+        let somewhere = somewhere(random, divisor * period, count);
+        let value = if i % 2 == 0 { somewhere.value } else { divisor * random.below(period) };
+        Domain { value, slope: divisor * random.below(period), ..somewhere }
+    })
+}
+
+/// A value just hard or just not hard, 0 or the largest, at an argument at an end of the domain or of a part, or beside it.
+fn hard_at_the_ends() -> Result<Tally, String> {
+    random_domains(5, 20_000, |random, i| {
+        let (modulus, count) = (1 + sized(random, LARGEST - 1), random_count(random, 32));
+        let domain = Domain { value: 0, ..somewhere(random, modulus, count) };
+        let edge = (i % 9) as u64 * count / 8;
+        let x = one_of(random, &[edge.max(1) - 1, edge, edge + 1]);
+        let last = domain.window.saturating_sub(1);
+        let wanted = one_of(random, &[0, last, domain.window % modulus, modulus - 1]);
+        let value = (wanted as i128 - domain.value_at(x) as i128).rem_euclid(modulus as i128);
+        Domain { value: value as u64, ..domain }
+    })
+}
+
+/// The windows at which the verdict on the domain, or on a part, changes.
+fn windows_where_a_verdict_changes() -> Result<Tally, String> {
+    random_domains(6, 20_000, |random, i| {
+        let (modulus, count) = (1 + sized(random, LARGEST - 1), random_count(random, 32));
+        let domain = somewhere(random, modulus, count);
+        let of = if i % 3 == 0 { domain } else { one_of(random, &domain.parts()) };
+        let covering = of.covering();
+        let reached = if i % 3 == 0 { covering.regular_reached() } else { covering.fine_reached() };
+        let (least, _) = covering.least(0..reached.count.min(THROUGH as u128) as u64);
+        let clear = (least as i128 - of.deviation()).max(0) as u64;
+        Domain { window: (clear + i as u64 % 2).min(modulus), ..domain }
+    })
+}
+
+/// Slopes of the covering segment with which a regular search goes much farther than a fine one.
+fn far_regular_searches() -> Result<Tally, String> {
+    random_domains(7, 4_000, |random, _| {
+        let (modulus, count) = (THROUGH - random.below(THROUGH - 1000), random_count(random, 16));
+        let near = sized(random, 64);
+        let slope = one_of(random, &[0, near, modulus - near, modulus / 2 + near, modulus / 3 + near]);
+        Domain { slope, curve: signed(random, near % 3), ..somewhere(random, modulus, count) }
+    })
+}
+
+fn realistic_domains() -> Result<Tally, String> {
+    let mut random = Random(SEED + 8);
+    all(
+        FAR_THROUGH,
+        (0..400).map(|i| {
+            let modulus = (1 << 60) - random.below(1 << 59);
+            let size = random.below([40, 1 << 14][i / 4 % 2]);
+            // From mostly cleared to some hard ones.
+            let window = random.below(modulus >> [29, 18, 14, 11][i % 4]);
+            let (value, slope) = (random.below(modulus), random.below(modulus));
+            domain(modulus, value, slope, signed(&mut random, size), 1 << 15, window)
+        }),
+    )
+}
+
+fn extreme_fields() -> Result<Tally, String> {
+    let mut domains = Vec::new();
+    for m in [2, 3, 45, MOST, 1 << 61, LARGEST - 1, LARGEST] {
+        let ends = [0, 1, m / 2, m - 1];
+        for (value, slope) in ends.iter().flat_map(|&value| ends.map(|slope| (value, slope))) {
+            let curves = [0, 1, -1, LARGEST_CURVE - 1, 1 - LARGEST_CURVE, LARGEST_CURVE, -LARGEST_CURVE];
+            for (curve, count) in curves.iter().flat_map(|&s| [8, 16, 72].map(|n| (s, n))) {
+                domains.extend([0, 1, m / 2, m - 1, m].map(|w| domain(m, value, slope, curve, count, w)));
+            }
+        }
+    }
+    all(THROUGH, domains)
+}
+
+/// Count 2^20 at the ends of the other fields, where the numbers are largest.
+fn largest_count() -> Result<Tally, String> {
+    let m = LARGEST;
+    let mut domains = vec![domain(2, 1, 1, LARGEST_CURVE, MOST, 2), domain(2, 1, 1, -LARGEST_CURVE, MOST, 1)];
+    for curve in [LARGEST_CURVE, -LARGEST_CURVE] {
+        domains.extend([0, 1, m >> 16, m - 1, m].map(|window| domain(m, m - 1, m - 1, curve, MOST, window)));
+        domains.extend([(0, m - 1), (m - 1, 0), (m / 2, 1)].map(|(c0, c1)| domain(m, c0, c1, curve, MOST, m >> 17)));
+        domains.extend([(m / 5, m / 7), (m / 3, m - m / 11)].map(|(c0, c1)| domain(m, c0, c1, curve, MOST, m >> 15)));
+    }
+    // Curves so small that parts may be clear.
+    let mut random = Random(SEED + 12);
+    for (curve, window) in [(1, 0), (-1, 1), (0, 1), (0, m >> 22), (2, m >> 21), (-2, m >> 21), (9, m >> 19), (-9, 0)] {
+        let (value, slope) = (random.below(m - 57), random.below(m - 57));
+        domains.push(domain(m - 57, value, slope, curve, MOST, window));
+    }
+    all(FAR_THROUGH, domains)
+}
+
+fn random_fields_of_every_size() -> Result<Tally, String> {
+    let mut random = Random(SEED + 9);
+    let mut field = || random.next() >> random.below(64);
+    all(
+        THROUGH,
+        (0..60_000).map(|i| {
+            let curve = field() as i64;
+            let count = field() >> 50;
+            Domain {
+                modulus: field(),
+                value: field(),
+                slope: field(),
+                curve: if i % 2 == 0 { curve } else { curve >> 44 },
+                count: if i % 4 == 0 { count } else { count & !7 },
+                window: field(),
+            }
+        }),
+    )
+}
+
+/// Every set of the conditions 1 to 7 in conflict with each other: the lowest number wins. Beside another condition, 7 applies
+/// where the first argument is hard and there is no place.
+fn every_set_of_refusals() -> Result<Tally, String> {
+    let (mut tally, mut sets) = (Tally::default(), HashSet::new());
+    let curves = [0, 5, LARGEST_CURVE, LARGEST_CURVE + 1, -LARGEST_CURVE, -LARGEST_CURVE - 1, i64::MIN, i64::MAX];
+    let counts = [0, 7, 8, 12, MOST + 8, 1 << 63, u64::MAX];
+    for modulus in [0, 1, 2, 45, LARGEST, LARGEST + 1, 1 << 63, u64::MAX - 1] {
+        let fields = [0, modulus.wrapping_sub(1), modulus, modulus + 1, u64::MAX];
+        for (value, slope) in fields.iter().flat_map(|&value| fields.map(|slope| (value, slope))) {
+            for (curve, count) in curves.iter().flat_map(|&s| counts.map(|n| (s, n))) {
+                for window in fields {
+                    let domain = domain(modulus, value, slope, curve, count, window);
+                    let no_place = count > 0 && modulus > 0 && domain.value_at(0) < window;
+                    sets.insert((domain.conflicts(), no_place));
+                    if count <= PLENTY as u64 {
+                        sets.insert((domain.conflicts(), false));
+                    }
+                    compare(&domain, THROUGH, &mut tally)?;
+                }
+            }
+        }
+    }
+    match sets.len() {
+        128 => Ok(tally),
+        few => Err(format!("only {few} of the 128 sets")),
+    }
+}
+
+/// What 01 says of the parts, of the reference's: each has the values of its stretch of the domain.
+fn parts_of_the_reference() -> Result<String, String> {
+    let (mut random, mut values) = (Random(SEED + 13), 0);
+    for _ in 0..2_000 {
+        let (modulus, count) = (1 + sized(&mut random, LARGEST - 1), random_count(&mut random, 64));
+        let domain = somewhere(&mut random, modulus, count);
+        let of_parts = domain.parts().into_iter().flat_map(|part| (0..part.count).map(move |x| part.value_at(x)));
+        if !of_parts.eq((0..count).map(|x| domain.value_at(x))) {
+            return domain.wrong("parts with other values");
+        }
+        values += count;
+    }
+    Ok(format!("{values} values"))
+}
+
+/// Document 01's examples with a mark that concern domains: the marks and the list; all are possible.
+fn settled_examples() -> Result<Tally, String> {
+    let examples: [(&str, Domain, [u8; 8], &[u32]); 3] = [
+        ("P10", domain(45, 44, 31, 0, 16, 3), [1, 2, 1, 1, 1, 1, 1, 1], &[3]),
+        ("P11", domain(45, 0, 0, 1, 8, 1), [2, 2, 1, 1, 1, 1, 1, 1], &[0, 1]),
+        ("P11", domain(45, 0, 0, -1, 8, 1), [2, 2, 1, 1, 1, 1, 1, 1], &[0, 1]),
+    ];
+    for (name, domain, marks, list) in examples {
+        let shown = Shown { marks: &marks, numbers: &[0, list.len() as u64] };
+        let checked = check(&domain, list, &shown).and(check_places(&domain, 2 << 20, list, &shown));
+        checked.map_err(|why| format!("{name}: {why}"))?;
+    }
+    all(THROUGH, examples.map(|example| example.1))
+}
+
+/// Document 01's examples without a mark that concern domains.
+fn settled_refusals() -> Result<Tally, String> {
+    let refusals = [
+        (domain(1, 0, 0, 0, 8, 0), 1),
+        (domain(2, 0, 0, 0, 8, 0), 0),
+        (domain(45, 44, 31, 0, 0, 3), 4),
+        (domain(45, 44, 31, 0, 1_048_577, 3), 4),
+        (domain(45, 44, 31, 0, 12, 3), 4),
+        (domain(45, 44, 31, 0, 16, 45), 0),
+        (domain(45, 44, 31, 0, 16, 46), 5),
+        (domain(45, 44, 31, i64::MIN, 16, 3), 6),
+        (domain(45, 44, 31, i64::MAX, 16, 3), 6),
+    ];
+    for (domain, number) in refusals {
+        if domain.call(&mut Memory::new(16, 8, 2)) != number {
+            return domain.wrong(&format!("not {number}"));
+        }
+    }
+    all(THROUGH, refusals.map(|refusal| refusal.0))
+}
+
+fn every_small_scan() -> Result<Tally, String> {
+    let segments = |modulus| {
+        (0..modulus).flat_map(move |step| {
+            (0..modulus).flat_map(move |start| {
+                (1..modulus + 3).flat_map(move |count| {
+                    (0..=modulus).map(move |window| Segment { modulus, step, start, count, window })
+                })
+            })
+        })
+    };
+    all_scans((2..=10).flat_map(segments))
+}
+
+fn random_scans() -> Result<Tally, String> {
+    let mut random = Random(SEED + 10);
+    all_scans((0..40_000).map(|i| {
+        let modulus = 1 + sized(&mut random, if i % 2 == 0 { LARGEST - 1 } else { 4096 });
+        let (step, count) = (random.below(modulus), sized(&mut random, if i % 32 == 0 { 1 << 13 } else { 256 }));
+        let (start, window) = (random.below(modulus), window(&mut random, modulus, count));
+        // A residue just hard or just not hard at the last argument, or at the one after it.
+        let from_start = [start, 0, window % modulus, window.max(1) - 1][i % 4] as i128;
+        let x = if i % 8 < 4 { count - 1 } else { count };
+        let start = if i % 4 == 0 { from_start } else { from_start + step as i128 * x as i128 };
+        Segment { modulus, step, start: start.rem_euclid(modulus as i128) as u64, count, window }
+    }))
+}
+
+fn extreme_scans() -> Result<Tally, String> {
+    let mut segments = Vec::new();
+    for m in [2, 3, 45, MOST, 1 << 61, LARGEST - 1, LARGEST] {
+        let ends = [0, 1, m / 2, m - 1];
+        for (step, start) in ends.iter().flat_map(|&step| ends.map(|start| (step, start))) {
+            for count in [1, 2, 100] {
+                segments.extend([0, 1, m / 2, m - 1, m].map(|window| segment([m, step, start, count, window])));
+            }
+        }
+        segments.extend([0, 1, m].map(|window| segment([m, m - 1, m - 1, MOST, window])));
+        segments.push(segment([m, m - 1 - m / 3, m / 2, MOST, m / 1000]));
+    }
+    all_scans(segments)
+}
+
+/// Every set of the conditions 1 to 5 and 7, as for domains.
+fn every_set_of_scan_refusals() -> Result<Tally, String> {
+    let (mut tally, mut sets) = (Tally::default(), HashSet::new());
+    for modulus in [0, 1, 2, 45, LARGEST, LARGEST + 1, 1 << 63, u64::MAX - 1] {
+        let fields = [0, 1, modulus.wrapping_sub(1), modulus, modulus + 1, u64::MAX];
+        for (step, start) in fields.iter().flat_map(|&step| fields.map(|start| (step, start))) {
+            for (count, window) in [0, 1, 7, MOST + 1, u64::MAX].iter().flat_map(|&n| fields.map(|w| (n, w))) {
+                let segment = Segment { modulus, step, start, count, window };
+                let no_place = count > 0 && modulus > 0 && segment.residue(0) < window;
+                sets.insert((segment.conflicts(), no_place));
+                if count <= PLENTY as u64 {
+                    sets.insert((segment.conflicts(), false));
+                }
+                compare_scan(&segment, &mut tally)?;
+            }
+        }
+    }
+    match sets.len() {
+        64 => Ok(tally),
+        few => Err(format!("only {few} of the 64 sets")),
+    }
+}
+
+/// Document 01's example P9, its refusals that concern scans, and 7.
+fn settled_scans() -> Result<Tally, String> {
+    let examples: [([u64; 5], &[u32]); 3] =
+        [([45, 14, 44, 16, 6], &[3, 6]), ([45, 14, 44, 16, 3], &[3]), ([45, 14, 44, 16, 0], &[])];
+    for (fields, list) in examples {
+        let shown = Shown { marks: &[], numbers: &[list.len() as u64] };
+        check(&segment(fields), list, &shown).map_err(|why| format!("P9: {why}"))?;
+    }
+    let refusals = [
+        ([1, 0, 0, 1, 0], 0, 1),
+        ([2, 0, 0, 1, 0], 0, 0),
+        ([45, 14, 44, 0, 1], 16, 4),
+        ([45, 14, 44, 1_048_577, 1], 16, 4),
+        ([45, 14, 44, 16, 45], 16, 0),
+        ([45, 14, 44, 16, 46], 16, 5),
+        ([45, 14, 44, 16, 6], 1, 7),
+        ([45, 14, 44, 16, 6], 2, 0),
+    ];
+    for (fields, places, number) in refusals {
+        if segment(fields).call(&mut Memory::new(places, 0, 1)) != number {
+            return segment(fields).wrong(&format!("not {number} with {places} places"));
+        }
+    }
+    all_scans(refusals.map(|refusal| segment(refusal.0)))
+}
+
+/// Compares the range of a list between two bounds with the reference; the list has to stay as it is.
+fn compare_range(list: &[u32], lo: u32, hi: u32) -> Result<(), String> {
+    let [mut lent, mut wanted] = [(); 2].map(|_| Memory::new(list.len(), 0, 1));
+    lent.list.lend_list().copy_from_slice(list);
+    wanted.list.lend_list().copy_from_slice(list);
+    let (start, count) = reference::range(list, lo, hi);
+    wanted.numbers.lend_list()[0] = start as u64;
+    let [at] = lent.numbers.lend();
+    let number = c_api::range(lent.list.part(), lo, hi, at);
+    if number != count as u64 || lent != wanted {
+        let has = lent.numbers.part()[0];
+        let wrong = format!("({has}, {number}) for ({start}, {count}), or memory beside it");
+        let (length, first) = (list.len(), &list[..list.len().min(20)]);
+        return Err(format!("{length} arguments {first:?}.., from {lo} to below {hi}: {wrong}"));
+    }
+    Ok(())
+}
+
+/// Every list of up to five of five neighbouring numbers, in any order, with every pair of bounds about them: the smallest numbers,
+/// the largest and some between.
+fn every_small_range() -> Result<String, String> {
+    let (mut lists, mut longest, mut ranges) = (vec![vec![]], vec![vec![]], 0);
+    for _ in 0..5 {
+        longest = longest.iter().flat_map(|list| (0..5u32).map(|last| [&list[..], &[last]].concat())).collect();
+        lists.extend(longest.iter().cloned());
+    }
+    for shift in [0, 1 << 20, 1 << 31, u32::MAX - 4] {
+        let mut bounds: Vec<u32> = (0..7u32).filter_map(|by| shift.checked_add(by)?.checked_sub(1)).collect();
+        bounds.extend([0, u32::MAX]);
+        for list in &lists {
+            let list: Vec<u32> = list.iter().map(|argument| shift + argument).collect();
+            for (lo, hi) in bounds.iter().flat_map(|&lo| bounds.iter().map(move |&hi| (lo, hi))) {
+                compare_range(&list, lo, hi)?;
+                ranges += 1;
+            }
+        }
+    }
+    Ok(format!("{ranges} ranges of {} lists", lists.len()))
+}
+
+/// A strictly ascending list, of numbers below a bound.
+fn ascending(random: &mut Random, length: u64, below: u64) -> Vec<u32> {
+    let mut list: Vec<u32> = (0..length).map(|_| random.below(below) as u32).collect();
+    list.sort();
+    list.dedup();
+    list
+}
+
+/// Random longer lists, strictly ascending or not at one place only, with bounds at the arguments and beside them.
+fn random_ranges() -> Result<String, String> {
+    let (mut random, mut ranges) = (Random(SEED + 11), 0);
+    for i in 0..6_000 {
+        let (length, below) = (1 + sized(&mut random, 300), [MOST, 1 << 32, 400][i % 3]);
+        let mut list = ascending(&mut random, length, below);
+        let at = random.below(list.len() as u64) as usize;
+        match i % 4 {
+            0 if at > 0 => list[at] = list[at - 1],
+            1 if at > 0 => list.swap(at - 1, at),
+            _ => (),
+        }
+        for _ in 0..24 {
+            let bounds = [(); 2].map(|_| {
+                let near = one_of(&mut random, &list);
+                let any = random.next() as u32;
+                one_of(&mut random, &[near, near.saturating_sub(1), near.saturating_add(1), any, 0, u32::MAX])
+            });
+            compare_range(&list, bounds[0], bounds[1])?;
+            ranges += 1;
+        }
+    }
+    Ok(format!("{ranges} ranges"))
+}
+
+/// Lists as long as the largest that a call fills.
+fn longest_ranges() -> Result<String, String> {
+    let mut list: Vec<u32> = (0..MOST as u32).collect();
+    let bounds = [0, 1, 524_288, MOST as u32 - 1, MOST as u32, u32::MAX];
+    let pairs = || bounds.iter().flat_map(|&lo| bounds.map(|hi| (lo, hi)));
+    pairs().try_for_each(|(lo, hi)| compare_range(&list, lo, hi))?;
+    *list.last_mut().unwrap() -= 1;
+    pairs().try_for_each(|(lo, hi)| compare_range(&list, lo, hi))?;
+    Ok(format!("{} ranges", 2 * bounds.len().pow(2)))
+}
+
+fn main() {
+    let mut run = Run::start();
+    let domain_tests: [(&str, fn() -> Result<Tally, String>); 16] = [
+        ("every modulus up to 8", every_small_domain),
+        ("random small moduli", random_small_moduli),
+        ("random moduli of every size", random_moduli_of_every_size),
+        ("random moduli from 2^61 to 2^62", random_large_moduli),
+        ("curves above the modulus", curves_above_the_modulus),
+        ("common divisors", common_divisors),
+        ("hard at the ends of domains and parts", hard_at_the_ends),
+        ("windows where a verdict changes", windows_where_a_verdict_changes),
+        ("far regular searches", far_regular_searches),
+        ("count 2^15, moduli about 2^60", realistic_domains),
+        ("extreme fields", extreme_fields),
+        ("count 2^20", largest_count),
+        ("random fields of every size", random_fields_of_every_size),
+        ("every set of refusals", every_set_of_refusals),
+        ("settled examples", settled_examples),
+        ("settled refusals", settled_refusals),
+    ];
+    let scan_tests: [(&str, fn() -> Result<Tally, String>); 5] = [
+        ("scans of every modulus up to 10", every_small_scan),
+        ("random scans", random_scans),
+        ("extreme scans", extreme_scans),
+        ("every set of refusals of scans", every_set_of_scan_refusals),
+        ("settled scans", settled_scans),
+    ];
+    let [domains, scans] = [&domain_tests[..], &scan_tests[..]].map(|tests| {
+        let mut sum = Tally::default();
+        for (name, test) in tests {
+            let result = test();
+            sum.add(result.as_ref().unwrap_or(&Tally::default()));
+            run.count(name, result);
+        }
+        sum
+    });
+    run.count("parts of the reference", parts_of_the_reference());
+    run.count("every small range", every_small_range());
+    run.count("random ranges", random_ranges());
+    run.count("longest ranges", longest_ranges());
+    let enough = domains.full >= 80_000 && domains.cleared >= 10_000 && domains.clear_parts >= 50_000;
+    run.count("as many domains as meant", if enough { Ok(domains) } else { Err(format!("only {domains}")) });
+    let enough = scans.accepted >= 40_000;
+    run.count("as many scans as meant", if enough { Ok(scans) } else { Err(format!("only {scans}")) });
+    run.end()
+}
