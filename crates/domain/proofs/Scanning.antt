@@ -4,7 +4,7 @@ use mathlib.Core.Path.{_≡_, refl, sym, _∙_, ap, subst}
 use mathlib.Core.Bool.{Bool, true, false, cond}
 use mathlib.Core.List.{List, [], _∷_}
 use Prim.Native.Nat.{ℕ, zero, suc, _+_, _-_, _%_, _≤_, _<_}
-use native.Mathlib.Nat.{sub-zero, sub-eq-zero-of-le, lt-of-not-le}
+use native.Mathlib.Nat.{sub-zero, add-zero, mod-eq-of-lt, sub-eq-zero-of-le, lt-of-not-le}
 use native.Mathlib.Omega.{arith}
 use native.Mathlib.Numerals.{add-one}
 use borrow.Author.Tests.{lt-ltb, le-ltb}
@@ -68,6 +68,15 @@ module _ {d : Domain} {bend x : ℕ} {p : Point} (a : At d bend x p) where
   pub at-test : ltb (p .value) (d .window) ≡ is-hard d x
   unfolding is-hard
   at-test = rw (a .value-is)
+
+-- a line keeps its slope
+pub line-next : {bend modulus : ℕ} {p : Point} {v : ℕ} → Point-below bend modulus p → bend ≡ 0 → v ≡ (p .value + p .slope) % modulus
+    → record { value = v; slope = p .slope } ≡ next-point bend modulus p
+unfolding next-point
+line-next {bend} {modulus} {p} b z e =
+    let s : p .slope ≡ (p .slope + bend) % modulus
+    = sym (ap (λ (n : ℕ). (p .slope + n) % modulus) z ∙ ap (λ (n : ℕ). n % modulus) (add-zero (p .slope)) ∙ mod-eq-of-lt (b .slope-below)) in
+    λ i. record { value = e i; slope = s i }
 
 -- the hard arguments from x on
 abbrev pub rest : Domain → (x : ℕ) → List ℕ

@@ -16,6 +16,18 @@ pub(crate) fn add(a: u64, b: u64, modulus: u64) -> u64
     sum - modulus
 }
 
+// The same where b stays as it is in a loop: what the modulus exceeds it by is known before a is, and the test need not wait for the sum.
+pub(crate) fn add_fixed(a: u64, b: u64, modulus: u64) -> u64
+    requires { ⌜ (a < modulus) × (b < modulus) × (modulus ≤ 2 ^ 62) ⌝ }
+    ensures { λ r. ⌜ r ≡ (a + b) % modulus ⌝ }
+{
+    let rest = modulus - b;
+    if a < rest {
+        return a + b;
+    }
+    a - rest
+}
+
 // -a
 pub(crate) fn negate(a: u64, modulus: u64) -> u64
     requires { ⌜ a < modulus ⌝ }

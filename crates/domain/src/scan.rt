@@ -1,13 +1,14 @@
 // Scans: the hard arguments of a domain, or of a line, counted and listed by going from each value to the next.
 ghost use mathlib.Core.Path.{_≡_};
-ghost use mathlib.Core.Bool.{Bool, cond};
-ghost use Prim.Native.Nat.{_+_, _≤_, _<_, _%_, _^_};
+ghost use mathlib.Core.Bool.{cond};
+ghost use Prim.Native.Nat.{_+_, _≤_};
 ghost use lib.ListN.{length};
 ghost use lib.Seq.{sets};
 ghost use Rattle.numbers.specs.Lists.{raised};
 ghost use Rattle.domain.specs.Domain.{Fair, hard-list};
 ghost use Rattle.domain.specs.Scan.{Point-below, next-point};
 use crate::modular::add;
+use crate::modular::add_fixed;
 use crate::part::Domain;
 use crate::part::bend;
 
@@ -17,25 +18,21 @@ struct Point {
     slope: u64,
 }
 
+// A line keeps its slope. The compiler takes this test out of a scan's loop and makes two loops of it.
 fn next(point: Point, bend: u64, modulus: u64) -> Point
     requires { ⌜ Point-below bend modulus point ⌝ }
     ensures { λ r. ⌜ r ≡ next-point bend modulus point ⌝ }
 {
+    if bend == 0 {
+        return Point {
+            value: add_fixed(point.value, point.slope, modulus),
+            slope: point.slope,
+        };
+    }
     Point {
         value: add(point.value, point.slope, modulus),
-        slope: bent(point.slope, bend, modulus),
+        slope: add(point.slope, bend, modulus),
     }
-}
-
-// A line keeps its slope: the test is outside the loop that the compiler makes of a scan, and saves a line half of the work.
-fn bent(slope: u64, bend: u64, modulus: u64) -> u64
-    requires { ⌜ (slope < modulus) × (bend < modulus) × (modulus ≤ 2 ^ 62) ⌝ }
-    ensures { λ r. ⌜ r ≡ (slope + bend) % modulus ⌝ }
-{
-    if bend == 0 {
-        return slope;
-    }
-    add(slope, bend, modulus)
 }
 
 fn one_if(hard: bool) -> u32
