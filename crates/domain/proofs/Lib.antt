@@ -9,3 +9,6 @@ pub mod Curves
 pub mod Refusals
 pub mod Lines
 pub mod Answers
+pub mod Members
+pub mod Verdicts
+pub mod Promises

@@ -81,7 +81,7 @@ shifted-none M v f h = sym (shifted-is M v (omega arith) f 0 h (by f))
 
 -- ---- x(x-1)/2
 
-square : (x : ℕ) → x * (x - 1) + x ≡ x * x
+pub square : (x : ℕ) → x * (x - 1) + x ≡ x * x
 square zero = refl
 square (suc x) =
     let e : suc x - 1 ≡ x = omega arith in

@@ -2,40 +2,40 @@
 -- s the curve, N the count, w the window, D the spread; of a segment a the step and b the start. `Promised`, at the end, is all of it;
 -- proofs/Promises.antt proves it. Assumes nothing: these are statements.
 use mathlib.Core.Path.{_≡_}
-use mathlib.Core.Bool.{true, false}
-use mathlib.Core.List.{List, [], List·Memᴰ}
+use mathlib.Core.List.{List, List·Memᴰ}
 use mathlib.Core.Logic.{_↔_, _⊎_}
-use Prim.Native.Nat.{ℕ, zero, suc, _+_, _-_, _*_, _%_, _^_, _≤_, _<_}
+use Prim.Native.Nat.{ℕ, suc, _+_, _-_, _*_, _%_, _^_, _≤_, _<_}
 use lib.Dec.{ltb}
-use lib.IntN.{ℤ, pos, negsuc, _+ℤ_, _*ℤ_, natAbs}
+use lib.IntN.{ℤ, pos, negsuc}
 use lib.ListN.{length, getD, replicate}
 use Rattle.numbers.specs.Lists.{Ascending, how-many}
 use Rattle.segment.specs.Segment.{Segment, segment, residue}
 use Rattle.segment.specs.Segment as segment-specs
-use Rattle.segment.specs.Search.{Search, distance}
+use Rattle.segment.specs.Search.{distance}
 use Rattle.segment.specs.Search.Search.{regular, fine}
 use Rattle.segment.specs.Promise as segment-promise
 use Rattle.segment.specs.declared.Verdict.{Verdict}
 use Rattle.segment.specs.declared.Verdict.the-variants.{Clear, Possible}
-use Rattle.domain.specs.Domain.{domain, triangle, value-at, slope-at, is-hard, hard-list, segment-hard-list, spread, covering, part-start, part-count, part, first-verdict, part-verdict, marks-from, marks-after, Fair, Accepted}
-use Rattle.domain.specs.Answer.{domain-answer, domain-left, scan-answer, scan-left, scan-refusal}
+use Rattle.domain.specs.Domain.{domain, triangle, value-at, slope-at, is-hard, hard-list, segment-hard-list, covering, part-start, part-count, part, first-verdict, part-verdict, Fair, Accepted}
+use Rattle.domain.specs.Answer.{domain-answer, domain-left, scan-answer, scan-left}
 use Rattle.domain.specs.declared.part.Domain.{Domain}
-use Rattle.domain.specs.declared.DomainAnswer.{DomainAnswer}
 use Rattle.domain.specs.declared.ScanAnswer.the-variants.{Refused, Listed}
 
 -- ---- values
 
--- V(x) is the number from 0 to M - 1 that differs from c0 + c1·x + s·x(x-1)/2 by a multiple of M
+-- V(x) is the number from 0 to M - 1 that differs from c0 + c1·x + s·x(x-1)/2 by a multiple of M, and the slope at x the one that differs so
+-- from c1 + s·x; s is n where it is not negative, or -(n + 1)
 pub record Values-right (M c0 c1 : ℕ) (s : ℤ) (N w : ℕ) : Type 0 where
   pub in-range : (x : ℕ) → value-at (domain M c0 c1 s N w) x < M
-  pub congruent : (x : ℕ)
-      → (k : ℤ) × (pos (value-at (domain M c0 c1 s N w) x) ≡ pos (c0 + c1 * x) +ℤ s *ℤ pos (triangle x) +ℤ k *ℤ pos M)
-  -- x(x-1)/2 is a whole number
+  pub rising : (n x : ℕ) → s ≡ pos n → value-at (domain M c0 c1 s N w) x ≡ (c0 + c1 * x + n * triangle x) % M
+  pub falling : (n x : ℕ) → s ≡ negsuc n → (value-at (domain M c0 c1 s N w) x + suc n * triangle x) % M ≡ (c0 + c1 * x) % M
   pub halved : (x : ℕ) → triangle x + triangle x ≡ x * (x - 1)
+  pub slope-in-range : (x : ℕ) → slope-at (domain M c0 c1 s N w) x < M
+  pub slope-rising : (n x : ℕ) → s ≡ pos n → slope-at (domain M c0 c1 s N w) x ≡ (c1 + n * x) % M
+  pub slope-falling : (n x : ℕ) → s ≡ negsuc n → (slope-at (domain M c0 c1 s N w) x + suc n * x) % M ≡ c1 % M
   -- V(x + 1) is V(x) + c1 + s·x, modulo M
   pub differences : (x : ℕ)
-      → (value-at (domain M c0 c1 s N w) (suc x) ≡ (value-at (domain M c0 c1 s N w) x + slope-at (domain M c0 c1 s N w) x) % M)
-      × ((k : ℤ) × (pos (slope-at (domain M c0 c1 s N w) x) ≡ pos c1 +ℤ s *ℤ pos x +ℤ k *ℤ pos M))
+      → value-at (domain M c0 c1 s N w) (suc x) ≡ (value-at (domain M c0 c1 s N w) x + slope-at (domain M c0 c1 s N w) x) % M
 
 -- ---- lists
 

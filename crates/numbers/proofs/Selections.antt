@@ -1,6 +1,6 @@
 -- The numbers that have a property, in order: which they are, that they ascend, how many they are, that they can be taken piece by piece, also
 -- seen from elsewhere; and lists written into a buffer. Assumes nothing.
-use mathlib.Core.Path.{_≡_, refl, sym, _∙_, ap, ap₂}
+use mathlib.Core.Path.{_≡_, refl, sym, _∙_, ap, ap₂, subst}
 use mathlib.Core.Bool.{Bool, true, false, cond}
 use mathlib.Core.List.{List, [], _∷_, _++_, List·Memᴰ, List·Memᴰ·not-nil, List·Memᴰ·cases-cons}
 use mathlib.Core.List.List·Memᴰ.{List·Memᴰ·head, List·Memᴰ·tail}
@@ -8,8 +8,8 @@ use mathlib.Core.Logic.{⊎-elim}
 use Prim.Native.Nat.{ℕ, zero, suc, _+_, _-_, _≤_, _<_}
 use native.Mathlib.Nat.{eq-or-lt-of-le, zero-add, add-zero, add-suc, suc-add}
 use native.Mathlib.Omega.{arith}
-use lib.ListN.{length, set}
-use lib.Seq.{sets, sets-eq}
+use lib.ListN.{length, getD, set, drop, length-append, length-drop, List·getD-append}
+use lib.Seq.{sets, sets-eq, getD-append-add, getD-drop}
 use Rattle.numbers.specs.Lists.{having, how-many, raised, in-front}
 use Rattle.numbers.proofs.Lists.{Ascending-from}
 use Rattle.numbers.proofs.Lists.Ascending-from.{ascending-nil, ascending-cons}
@@ -154,3 +154,19 @@ written-in-front xs old h = sets-eq xs old 0 (omega arith) ∙ rw zero-add
 pub written-after : (xs ys l : List ℕ) (i : ℕ) → sets l i (xs ++ ys) ≡ sets (sets l i xs) (i + length xs) ys
 written-after [] ys l i = rw add-zero
 written-after (x ∷ xs) ys l i = written-after xs ys (set l i x) (suc i) ∙ rw (add-suc, suc-add)
+
+-- what such a list holds, place by place
+pub in-front-length : (xs old : List ℕ) → length xs ≤ length old → length (in-front xs old) ≡ length old
+unfolding in-front
+in-front-length xs old h = omega (arith, length-append xs (drop (length xs) old), length-drop (length xs) old)
+
+pub in-front-at : (xs old : List ℕ) (i : ℕ) → i < length xs → getD (in-front xs old) i 0 ≡ getD xs i 0
+unfolding in-front
+in-front-at xs old i h = List·getD-append xs (drop (length xs) old) 0 i h
+
+pub in-front-after : (xs old : List ℕ) (i : ℕ) → length xs ≤ i → getD (in-front xs old) i 0 ≡ getD old i 0
+unfolding in-front
+in-front-after xs old i h =
+    let e : length xs + (i - length xs) ≡ i = omega arith in
+    subst (λ (j : ℕ). getD (xs ++ drop (length xs) old) j 0 ≡ getD old j 0) e
+    (getD-append-add xs (drop (length xs) old) (i - length xs) 0 ∙ getD-drop (length xs) old (i - length xs) 0)

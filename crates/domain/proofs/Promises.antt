@@ -1,0 +1,312 @@
+-- All that is promised of domains and scans. Assumes nothing.
+use mathlib.Core.Path.{_≡_, refl, sym, _∙_, ap, subst}
+use mathlib.Core.Bool.{true}
+use mathlib.Core.List.{List, []}
+use mathlib.Core.Logic.{_↔_, ⊎-elim, by-cases}
+use Prim.Native.Nat.{ℕ, zero, suc, _+_, _-_, _*_, _%_, _≤_, _<_}
+use native.Mathlib.Nat.{add-zero}
+use native.Mathlib.Decide.{decLt}
+use native.Mathlib.Omega.{arith}
+use lib.IntN.{ℤ, pos, negsuc, natAbs}
+use lib.ListN.{length, replicate}
+use Rattle.numbers.specs.Lists.{in-front}
+use Rattle.numbers.proofs.Congruences.{same-remainder, remainder, chain, flip}
+use Rattle.numbers.proofs.Selections.{in-front-length, in-front-at, in-front-after}
+use Rattle.segment.specs.Segment.{Segment, segment}
+use Rattle.segment.specs.Segment as segment-specs
+use Rattle.segment.specs.Promise as segment-promise
+use Rattle.segment.specs.declared.Verdict.the-variants.{Clear, Possible}
+use Rattle.segment.proofs.Refusals as segment-refusals
+use Rattle.domain.specs.Domain.{Accepted, domain, is-negative, triangle, shifted, value-at, slope-at, hard-list, segment-hard-list, first-verdict, marks-after}
+use Rattle.domain.specs.Answer.{refusal, overflow, or-else, left-in, refused, reported, domain-number, domain-answer-with, domain-answer, domain-left, scan-number, scan-answer-with, scan-answer, scan-left}
+use Rattle.domain.specs.Promise.{Values-right, Hard, Refused-for, Scan-refused-for, Left-right, Marks-right, Domain-right, Scan-right, Promised}
+use Rattle.domain.specs.Promise.Refused-for.{modulus-outside, slope-outside, value-outside, count-outside, window-outside, curve-outside, too-many}
+use Rattle.domain.specs.Promise.Scan-refused-for.{as-segment, too-many as scan-too-many}
+use Rattle.domain.specs.declared.part.Domain.{Domain}
+use Rattle.domain.specs.declared.DomainAnswer.{DomainAnswer}
+use Rattle.domain.specs.declared.ScanAnswer.{ScanAnswer}
+use Rattle.domain.specs.declared.ScanAnswer.the-variants as scan-variants
+use Rattle.domain.proofs.Values.{shifted-by, square, triangle-double, value-below, slope-below, value-next}
+use Rattle.domain.proofs.Clearing.{first-clears, none-listed}
+use Rattle.domain.proofs.Refusals.{decide, unrefused, accepted, refused-number}
+use Rattle.domain.proofs.Answers.{too-few, enough}
+use Rattle.domain.proofs.Members.{hard-lists, segment-lists}
+use Rattle.domain.proofs.Verdicts.{covered, parts-right, phases-right, marks-right}
+
+-- ---- values
+
+values : (M c0 c1 : ℕ) (s : ℤ) (N w : ℕ) → 0 < M → Values-right M c0 c1 s N w
+values M c0 c1 s N w some =
+    record {
+      in-range = value-below (domain M c0 c1 s N w) some;
+      rising = rising;
+      falling = falling;
+      halved = λ x. omega (arith, triangle-double x, square x);
+      slope-in-range = slope-below (domain M c0 c1 s N w) some;
+      slope-rising = slope-rising;
+      slope-falling = slope-falling;
+      differences = value-next (domain M c0 c1 s N w) some;
+    }
+  where
+    rising : (n x : ℕ) → s ≡ pos n → value-at (domain M c0 c1 s N w) x ≡ (c0 + c1 * x + n * triangle x) % M
+    rising n x e = unfold value-at is-negative shifted in rw e refl
+
+    falling : (n x : ℕ) → s ≡ negsuc n → (value-at (domain M c0 c1 s N w) x + suc n * triangle x) % M ≡ (c0 + c1 * x) % M
+    falling n x e =
+        unfold value-at is-negative in
+        rw e (same-remainder (shifted-by M (c0 + c1 * x) some true (suc n * triangle x)) ∙ ap (λ (v : ℕ). v % M) (add-zero (c0 + c1 * x)))
+
+    slope-rising : (n x : ℕ) → s ≡ pos n → slope-at (domain M c0 c1 s N w) x ≡ (c1 + n * x) % M
+    slope-rising n x e = unfold slope-at is-negative shifted in rw e refl
+
+    slope-falling : (n x : ℕ) → s ≡ negsuc n → (slope-at (domain M c0 c1 s N w) x + suc n * x) % M ≡ c1 % M
+    slope-falling n x e =
+        unfold slope-at is-negative in
+        rw e (same-remainder (shifted-by M c1 some true (suc n * x)) ∙ ap (λ (v : ℕ). v % M) (add-zero c1))
+
+-- ---- which number refuses
+
+-- the first of two numbers that is not 0
+first-of : {n k : ℕ} → n ≡ 0 → or-else n k ≡ k
+unfolding or-else
+first-of e = rw e
+
+first-is : {n l : ℕ} (k : ℕ) → n ≡ suc l → or-else n k ≡ suc l
+unfolding or-else
+first-is k e = rw e
+
+-- 7 or nothing
+seven : (xs : List ℕ) {places n : ℕ} → overflow xs places ≡ suc n → (suc n ≡ 7) × (places < length xs)
+seven xs {places} {n} e =
+    by-cases (decLt places (length xs)) (λ h. (sym e ∙ too-few xs h, h)) (λ h. absurd (omega (arith, e, enough xs {places = places} (omega arith))))
+
+room : (xs : List ℕ) {places : ℕ} → overflow xs places ≡ 0 → length xs ≤ places
+room xs {places} e = by-cases (decLt places (length xs)) (λ h. absurd (omega (arith, e, too-few xs h))) (λ h. omega arith)
+
+module _ (d : Domain) (places : ℕ) where
+  -- a number up to 6 whose condition holds
+  early : {n : ℕ} → Refused-for d places (suc n) → suc n < 7 → domain-number d places ≡ suc n
+  early f h = first-is (overflow (hard-list d) places) (refused-number f h)
+
+  back : {n : ℕ} → Refused-for d places n → domain-number d places ≡ n
+  back (modulus-outside h) = early (modulus-outside h) (omega arith)
+  back (slope-outside a b h) = early (slope-outside a b h) (omega arith)
+  back (value-outside a b c h) = early (value-outside a b c h) (omega arith)
+  back (count-outside a b c e h) = early (count-outside a b c e h) (omega arith)
+  back (window-outside a b c e f g i h) = early (window-outside a b c e f g i h) (omega arith)
+  back (curve-outside a b c e f g i j h) = early (curve-outside a b c e f g i j h) (omega arith)
+  back (too-many a h) = first-of (unrefused a) ∙ too-few (hard-list d) h
+
+  number-refuses : (n : ℕ) → (domain-number d places ≡ suc n) ↔ Refused-for d places (suc n)
+  number-refuses n = (to, back)
+    where
+      to : domain-number d places ≡ suc n → Refused-for d places (suc n)
+      to e =
+          ⊎-elim
+          (λ a.
+          let r = seven (hard-list d) (sym (first-of (unrefused a)) ∙ e) in
+          subst (Refused-for d places) (sym (r .0)) (too-many a (r .1)))
+          (λ r. subst (Refused-for d places) (sym (first-is (overflow (hard-list d) places) (r .1)) ∙ e) (r .2)) (decide d places)
+
+  number-accepts : (domain-number d places ≡ 0) ↔ (Accepted d × (length (hard-list d) ≤ places))
+  number-accepts = (
+    λ e. ⊎-elim (λ a. (a, room (hard-list d) (sym (first-of (unrefused a)) ∙ e))) (λ r. absurd (omega (arith, e, first-is (overflow (hard-list d) places) (r .1))))
+        (decide d places),
+    λ h. first-of (unrefused (h .0)) ∙ enough (hard-list d) (h .1),
+  )
+
+-- ---- the list of the caller
+
+left-right : (xs old : List ℕ) → length xs ≤ length old → Left-right xs old (in-front xs old)
+left-right xs old h =
+    record { places = in-front-length xs old h; room = h; front = in-front-at xs old; after = in-front-after xs old }
+
+-- on a refusal all is as it was
+left-refused : {n k : ℕ} (xs old : List ℕ) → n ≡ suc k → left-in n xs old ≡ old
+unfolding left-in
+left-refused xs old e = rw e
+
+left-listed : {n : ℕ} (xs old : List ℕ) → n ≡ 0 → left-in n xs old ≡ in-front xs old
+unfolding left-in
+left-listed xs old e = rw e
+
+-- ---- domains
+
+-- the number that an answer carries
+answer-number : (n : ℕ) (d : Domain) → domain-answer-with n d .refusal ≡ n
+unfolding domain-answer-with reported refused
+answer-number zero d = refl
+answer-number (suc n) d = refl
+
+answer-refused : {n k : ℕ} (d : Domain) → n ≡ suc k → domain-answer-with n d ≡ refused (suc k)
+unfolding domain-answer-with
+answer-refused d e = rw e
+
+answer-reported : {n : ℕ} (d : Domain) → n ≡ 0 → domain-answer-with n d ≡ reported d
+unfolding domain-answer-with
+answer-reported d e = rw e
+
+-- seen through an equal number
+through : {m n k : ℕ} {P : Type 0} → m ≡ n → (n ≡ k) ↔ P → (m ≡ k) ↔ P
+through e i = (λ f. i .0 (sym e ∙ f), λ p. e ∙ i .1 p)
+
+domains : (M c0 c1 : ℕ) (s : ℤ) (N w : ℕ) (old : List ℕ) → Domain-right M c0 c1 s N w old
+unfolding domain-answer domain-left
+domains M c0 c1 s N w old =
+    record {
+      refused = λ n. through number (number-refuses d places n);
+      unchanged = λ n e. left-refused (hard-list d) old (sym number ∙ e);
+      nothing-else = λ n e. answer-refused d (sym number ∙ e) ∙ (unfold refused in refl);
+      accepted = through number (number-accepts d places);
+      first = first;
+      marks = λ e. subst (λ (a : DomainAnswer). Marks-right d (a .first) (a .marks)) (sym (is-reported e)) (reported-marks (taken e .0));
+      listed = listed;
+      cleared = λ e c. cleared e (sym (first e) ∙ c);
+      left = λ e. subst (Left-right (hard-list d) old) (sym (left-listed (hard-list d) old (sym number ∙ e))) (left-right (hard-list d) old (taken e .1));
+    }
+  where
+    d : Domain
+    d = domain M c0 c1 s N w
+
+    places : ℕ
+    places = length old
+
+    number : domain-answer-with (domain-number d places) d .refusal ≡ domain-number d places
+    number = answer-number (domain-number d places) d
+
+    is-reported : domain-answer-with (domain-number d places) d .refusal ≡ 0 → domain-answer-with (domain-number d places) d ≡ reported d
+    is-reported e = answer-reported d (sym number ∙ e)
+
+    taken : domain-answer-with (domain-number d places) d .refusal ≡ 0 → Accepted d × (length (hard-list d) ≤ length old)
+    taken e = number-accepts d places .0 (sym number ∙ e)
+
+    first : domain-answer-with (domain-number d places) d .refusal ≡ 0 → domain-answer-with (domain-number d places) d .first ≡ first-verdict d
+    first e = ap (λ (a : DomainAnswer). a .first) (is-reported e) ∙ (unfold reported in refl)
+
+    listed : domain-answer-with (domain-number d places) d .refusal ≡ 0 → domain-answer-with (domain-number d places) d .listed ≡ length (hard-list d)
+    listed e = ap (λ (a : DomainAnswer). a .listed) (is-reported e) ∙ (unfold reported in refl)
+
+    reported-marks : Accepted d → Marks-right d (reported d .first) (reported d .marks)
+    reported-marks a = unfold reported in marks-right d a (first-verdict d)
+
+    nothing : Accepted d → first-verdict d ≡ Clear → hard-list d ≡ []
+    nothing a c = none-listed d (first-clears (a .fair) c)
+
+    empty-front : hard-list d ≡ [] → in-front (hard-list d) old ≡ old
+    empty-front e = unfold in-front in rw e refl
+
+    cleared : domain-answer-with (domain-number d places) d .refusal ≡ 0 → first-verdict d ≡ Clear
+        → (domain-answer-with (domain-number d places) d .listed ≡ 0) × (left-in (domain-number d places) (hard-list d) old ≡ old) × ((x : ℕ) → Hard d x → ⊥)
+    cleared e c =
+        let z : hard-list d ≡ [] = nothing (taken e .0) c in (
+          listed e ∙ ap length z,
+          left-listed (hard-list d) old (sym number ∙ e) ∙ empty-front z,
+          phases-right d (taken e .0) .first-none c,
+        )
+
+-- ---- scans
+
+-- what a scan's answer tells: a number and which of the two it is
+is-listed : ScanAnswer → ℕ
+is-listed (scan-variants.Refused n) = 0
+is-listed (scan-variants.Listed n) = 1
+
+told : ScanAnswer → ℕ
+told (scan-variants.Refused n) = n
+told (scan-variants.Listed n) = n
+
+module _ (s : Segment) (places : ℕ) where
+  -- a number whose condition holds is the one that refuses
+  scan-back : {n : ℕ} → Scan-refused-for s places n → (scan-number s places ≡ n) × (n ≡ 0 → ⊥)
+  scan-back (as-segment {n} f) = (chosen n (segment-refusals.refused-number f) (segment-refusals.refused-some f), segment-refusals.refused-some f)
+    where
+      chosen : (n : ℕ) → segment-specs.refusal s ≡ n → (n ≡ 0 → ⊥) → scan-number s places ≡ n
+      chosen zero e h = absurd (h refl)
+      chosen (suc n) e h = first-is (overflow (segment-hard-list s) places) e
+  scan-back (scan-too-many a h) =
+      (first-of (segment-refusals.unrefused a) ∙ too-few (segment-hard-list s) h, λ e. omega (arith, e))
+
+  scan-to : (n : ℕ) → scan-number s places ≡ suc n → Scan-refused-for s places (suc n)
+  scan-to n e =
+      ⊎-elim
+      (λ a.
+      let r = seven (segment-hard-list s) (sym (first-of (segment-refusals.unrefused a)) ∙ e) in
+      subst (Scan-refused-for s places) (sym (r .0)) (scan-too-many a (r .1)))
+      (λ r. as-segment (subst (segment-promise.Refused-for s) (sym (first-is (overflow (segment-hard-list s) places) (r .1)) ∙ e) (r .2)))
+      (segment-refusals.decide s)
+
+  scan-accepts : (scan-number s places ≡ 0) ↔ (segment-specs.Accepted s × (length (segment-hard-list s) ≤ places))
+  scan-accepts = (
+    λ e. ⊎-elim (λ a. (a, room (segment-hard-list s) (sym (first-of (segment-refusals.unrefused a)) ∙ e)))
+        (λ r. absurd (omega (arith, e, first-is (overflow (segment-hard-list s) places) (r .1))))
+        (segment-refusals.decide s),
+    λ h. first-of (segment-refusals.unrefused (h .0)) ∙ enough (segment-hard-list s) (h .1),
+  )
+
+-- an answer refuses exactly by its number, and lists exactly where that is 0
+module _ (s : Segment) where
+  answer-refuses : (k n : ℕ) → scan-answer-with k s ≡ scan-variants.Refused n → (k ≡ n) × (n ≡ 0 → ⊥)
+  unfolding scan-answer-with is-listed told
+  answer-refuses zero n e = absurd (omega (arith, ap is-listed e))
+  answer-refuses (suc k) n e = (ap told e, λ z. omega (arith, z, ap told e))
+
+  refuses-answer : (k n : ℕ) → k ≡ n → (n ≡ 0 → ⊥) → scan-answer-with k s ≡ scan-variants.Refused n
+  unfolding scan-answer-with
+  refuses-answer zero n e h = absurd (h (sym e))
+  refuses-answer (suc k) n e h = ap scan-variants.Refused e
+
+  answer-lists : (k n : ℕ) → scan-answer-with k s ≡ scan-variants.Listed n → (k ≡ 0) × (n ≡ length (segment-hard-list s))
+  unfolding scan-answer-with is-listed told
+  answer-lists zero n e = (refl, sym (ap told e))
+  answer-lists (suc k) n e = absurd (omega (arith, ap is-listed e))
+
+  lists-answer : (k n : ℕ) → k ≡ 0 → n ≡ length (segment-hard-list s) → scan-answer-with k s ≡ scan-variants.Listed n
+  unfolding scan-answer-with
+  lists-answer k n e f = rw (e, f)
+
+scans : (M a b N w : ℕ) (old : List ℕ) → Scan-right M a b N w old
+unfolding scan-answer scan-left
+scans M a b N w old =
+    record {
+      refused = λ n. (λ e. refused-by n (answer-refuses s number n e), λ f. let r = scan-back s places f in refuses-answer s number n (r .0) (r .1));
+      unchanged = λ n e. let r = answer-refuses s number n e in kept number (λ z. r .1 (sym (r .0) ∙ z));
+      listed = λ n. (
+        λ e. let r = answer-lists s number n e in let t = scan-accepts s places .0 (r .0) in (t .0, t .1, r .1),
+        λ h. lists-answer s number n (scan-accepts s places .1 (h .0, h .1)) (h .2),
+      );
+      left = λ n e. let z = answer-lists s number n e .0 in
+          subst (Left-right (segment-hard-list s) old) (sym (left-listed (segment-hard-list s) old z))
+          (left-right (segment-hard-list s) old (scan-accepts s places .0 z .1));
+    }
+  where
+    s : Segment
+    s = segment M a b N w
+
+    places : ℕ
+    places = length old
+
+    number : ℕ
+    number = scan-number s places
+
+    refused-by : (n : ℕ) → (number ≡ n) × (n ≡ 0 → ⊥) → Scan-refused-for s places n
+    refused-by zero r = absurd (r .1 refl)
+    refused-by (suc n) r = scan-to s places n (r .0)
+
+    kept : (k : ℕ) → (k ≡ 0 → ⊥) → left-in k (segment-hard-list s) old ≡ old
+    kept zero h = absurd (h refl)
+    kept (suc k) h = left-refused (segment-hard-list s) old refl
+
+-- ---- all of it
+
+pub promised : Promised
+promised =
+    record {
+      values = values;
+      hard-lists = hard-lists;
+      segment-lists = segment-lists;
+      coverings = covered;
+      parts = parts-right;
+      phases = phases-right;
+      domains = domains;
+      scans = scans;
+    }

@@ -1,0 +1,168 @@
+-- Parts, verdicts and marks as promised. Assumes nothing.
+use mathlib.Core.Path.{_≡_, refl, sym, _∙_, ap}
+use mathlib.Core.List.{List, []}
+use mathlib.Core.Logic.{_↔_}
+use Prim.Native.Nat.{ℕ, zero, suc, _+_, _-_, _*_, _/_, _%_, _≤_, _<_}
+use native.Mathlib.Nat.{mod-lt, div-add-mod', mul-le-mul-right, le-antisymm, lt-of-not-le, add-zero, zero-add}
+use native.Mathlib.Omega.{arith}
+use lib.ListN.{length, getD, replicate, getD-replicate}
+use Rattle.segment.specs.Answer.{verdict-at, regular-answer, regular-answer-with, regular-shown, fine-answer, fine-answer-with, fine-shown}
+use Rattle.segment.specs.Search.{distance}
+use Rattle.segment.specs.Search.Search.{regular, fine}
+use Rattle.segment.specs.declared.Verdict.{Verdict}
+use Rattle.segment.specs.declared.Verdict.the-variants.{Clear, Possible}
+use Rattle.segment.proofs.Refusals as segment-refusals
+use Rattle.segment.proofs.Showing.{clear-iff}
+use Rattle.domain.specs.Domain.{Accepted, Fair, value-at, covering-step, covering-start, covering-window, covering, part-start, part-count, part, regular-verdict, fine-verdict, first-verdict, part-verdict, mark-of, marks-from, marks-after}
+use Rattle.domain.specs.Promise.{Hard, Covered, Parts-right, Phases-right, Marks-right}
+use Rattle.domain.specs.declared.part.Domain.{Domain}
+use Rattle.domain.proofs.Values.{slope-continues, part-continues}
+use Rattle.domain.proofs.Clearing.{covering-accepted, covers, first-clears, part-clears}
+use Rattle.domain.proofs.Parts.{part-first, part-next, part-last, part-fair, part-value}
+
+-- ---- coverings and parts
+
+pub covered : (d : Domain) → Fair d → Covered d
+covered d f = record { accepted = covering-accepted f; covers = covers f }
+
+-- of stretches of k numbers one after another, a number is in one only
+not-before : (k i j x : ℕ) → j * k ≤ x → x < i * k + k → j ≤ i
+not-before k i j x h l = le-of-lt-suc (lt-of-not-le (λ g. omega (arith, mul-le-mul-right {m = suc i} {n = j} k g)))
+  where
+    le-of-lt-suc : {m n : ℕ} → m < suc n → m ≤ n
+    le-of-lt-suc g = omega arith
+
+pub parts-right : (d : Domain) → Accepted d → Parts-right d
+parts-right d a =
+    record {
+      first = part-first d;
+      next = part-next d;
+      last = part-last a;
+      once = once;
+      length-of = λ i. unfold part in refl;
+      equal = λ i. unfold part-count in omega (arith, a .count-eighths);
+      fair = part-fair a;
+      covered = λ i. covered (part d i) (part-fair a i);
+      continues = part-value d some;
+      slope = λ i. slope-continues some (part-continues d i);
+    }
+  where
+    some : 0 < d .modulus
+    some = omega (arith, a .fair .value-below)
+
+    eighth : 0 < d .count / 8
+    eighth = omega (arith, a .count-some)
+
+    once : (x : ℕ) → x < d .count → (i : ℕ) × (i < 8) × (part-start d i ≤ x) × (x < part-start d i + part-count d i)
+        × ((j : ℕ) → j < 8 → part-start d j ≤ x → x < part-start d j + part-count d j → j ≡ i)
+    once x h =
+        unfold part-start part-count in
+        let k : ℕ = d .count / 8 in
+        let low : x / k * k ≤ x = omega (arith, div-add-mod' x k) in
+        let high : x < x / k * k + k = omega (arith, div-add-mod' x k, mod-lt x eighth) in (
+          x / k,
+          lt-of-not-le (λ g. omega (arith, low, h, mul-le-mul-right {m = 8} {n = x / k} k g, a .count-eighths)),
+          low,
+          high,
+          λ j l m n. le-antisymm (not-before k (x / k) j x m high) (not-before k j (x / k) x low n),
+        )
+
+-- ---- the phases
+
+pub phases-right : (d : Domain) → Accepted d → Phases-right d
+phases-right d a =
+    record {
+      first-clear = first-clear (a .fair);
+      first-none = λ e x h. omega (arith, first-clears (a .fair) e x (h .0), h .1);
+      part-clear = λ i. part-clear (part-fair a i);
+      part-none = part-none;
+    }
+  where
+    first-clear : {d : Domain} → Fair d → (first-verdict d ≡ Clear) ↔ (covering d .window ≤ distance regular (covering d))
+    first-clear {d} f =
+        unfold first-verdict regular-answer regular-answer-with regular-shown regular-verdict in
+        rw (segment-refusals.unrefused (covering-accepted f)) (clear-iff (distance regular (covering d)) (covering-window d))
+
+    part-clear : {d : Domain} → Fair d → (part-verdict d ≡ Clear) ↔ (covering d .window ≤ distance fine (covering d))
+    part-clear {d} f =
+        unfold part-verdict fine-answer fine-answer-with fine-shown fine-verdict in
+        rw (segment-refusals.unrefused (covering-accepted f)) (clear-iff (distance fine (covering d)) (covering-window d))
+
+    some : 0 < d .modulus
+    some = omega (arith, a .fair .value-below)
+
+    same-window : (i : ℕ) → part d i .window ≡ d .window
+    same-window i = unfold part in refl
+
+    same-count : (i : ℕ) → part d i .count ≡ part-count d i
+    same-count i = unfold part in refl
+
+    part-none : (i : ℕ) → part-verdict (part d i) ≡ Clear → (x : ℕ) → part-start d i ≤ x → x < part-start d i + part-count d i → value-at d x < d .window → ⊥
+    part-none i e x l h v =
+        let y : part-start d i + (x - part-start d i) ≡ x = omega arith in
+        omega (
+          arith,
+          v,
+          part-clears (part-fair a i) e (x - part-start d i) (omega (arith, same-count i)),
+          ap (value-at d) y,
+          part-value d some i (x - part-start d i),
+          same-window i,
+        )
+
+-- ---- marks
+
+-- a mark tells the verdict
+mark-clear : (v : Verdict) → (mark-of v ≡ 1) ↔ (v ≡ Clear)
+unfolding mark-of
+mark-clear Clear = (λ e. refl, λ e. refl)
+mark-clear Possible = (λ e. absurd (omega (arith, e)), λ e. ap mark-of e)
+
+mark-possible : (v : Verdict) → (mark-of v ≡ 2) ↔ (v ≡ Possible)
+unfolding mark-of
+mark-possible Clear = (λ e. absurd (omega (arith, e)), λ e. ap mark-of e)
+mark-possible Possible = (λ e. refl, λ e. refl)
+
+marks-length : (n i : ℕ) (d : Domain) → length (marks-from n i d) ≡ n
+unfolding marks-from
+marks-length zero i d = refl
+marks-length (suc n) i d = ap suc (marks-length n (suc i) d)
+
+marks-at : (d : Domain) (n k i : ℕ) → i < n → getD (marks-from n k d) i 0 ≡ mark-of (part-verdict (part d (k + i)))
+unfolding marks-from
+marks-at d zero k i h = absurd (omega arith)
+marks-at d (suc n) k zero h = ap (λ (j : ℕ). mark-of (part-verdict (part d j))) (sym (add-zero k))
+marks-at d (suc n) k (suc i) h =
+    let e : suc k + i ≡ k + suc i = omega arith in
+    marks-at d n (suc k) i (omega arith) ∙ ap (λ (j : ℕ). mark-of (part-verdict (part d j))) e
+
+mark-at : (d : Domain) (i : ℕ) → i < 8 → getD (marks-from 8 0 d) i 0 ≡ mark-of (part-verdict (part d i))
+mark-at d i h = marks-at d 8 0 i h ∙ ap (λ (j : ℕ). mark-of (part-verdict (part d j))) (zero-add i)
+
+-- seen through an equal number
+through : {m n k : ℕ} {P : Type 0} → m ≡ n → (n ≡ k) ↔ P → (m ≡ k) ↔ P
+through e i = (λ f. i .0 (sym e ∙ f), λ p. e ∙ i .1 p)
+
+pub marks-right : (d : Domain) → Accepted d → (v : Verdict) → Marks-right d v (marks-after v d)
+unfolding marks-after
+marks-right d a Clear =
+    record {
+      eight = refl;
+      not-looked-at = λ e i h. getD-replicate 8 i 0 0 h;
+      clear = λ e. absurd (apart e);
+      possible = λ e. absurd (apart e);
+      none-hard = λ i h e. absurd (omega (arith, e, getD-replicate {A = ℕ} 8 i 0 0 h));
+    }
+  where
+    apart : Clear ≡ Possible → ⊥
+    apart e = unfold mark-of in omega (arith, ap mark-of e)
+marks-right d a Possible =
+    record {
+      eight = marks-length 8 0 d;
+      not-looked-at = λ e. absurd (apart e);
+      clear = λ e i h. through (mark-at d i h) (mark-clear (part-verdict (part d i)));
+      possible = λ e i h. through (mark-at d i h) (mark-possible (part-verdict (part d i)));
+      none-hard = λ i h e. phases-right d a .part-none i (mark-clear (part-verdict (part d i)) .0 (sym (mark-at d i h) ∙ e));
+    }
+  where
+    apart : Possible ≡ Clear → ⊥
+    apart e = unfold mark-of in omega (arith, ap mark-of e)
