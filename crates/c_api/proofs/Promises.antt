@@ -1,14 +1,21 @@
--- What is promised of the searches' C functions. Assumes nothing.
-use mathlib.Core.Path.{_≡_, refl, sym, _∙_, subst}
+-- What is promised of the C functions. Assumes nothing.
+use mathlib.Core.Path.{_≡_, refl, sym, _∙_, ap, subst}
 use mathlib.Core.List.{List}
 use mathlib.Core.Logic.{_↔_, ⊎-elim}
-use Prim.Native.Nat.{ℕ, zero, suc}
+use Prim.Native.Nat.{ℕ, zero, suc, _≤_}
 use native.Mathlib.Omega.{arith}
+use lib.ListN.{length}
 use Rattle.segment.specs.Segment.{Segment, Accepted, segment, refusal}
 use Rattle.segment.specs.Answer.{regular-answer-with, fine-answer-with, regular-answer, fine-answer, regular-refusal, fine-refusal}
 use Rattle.segment.specs.Promise.{Refused-for}
 use Rattle.segment.proofs.Refusals.{decide, accepted, unrefused, refused-number}
-use Rattle.c_api.specs.Memory.{verdict-number, regular-memory, fine-memory}
+use Rattle.domain.specs.Domain.{segment-hard-list}
+use Rattle.domain.specs.Answer.{scan-answer, scan-left, scan-refusal}
+use Rattle.domain.specs.Promise.{Scan-refused-for, Scan-right}
+use Rattle.domain.specs.declared.ScanAnswer.{ScanAnswer}
+use Rattle.domain.specs.declared.ScanAnswer.the-variants as scan-variants
+use Rattle.domain.proofs.Promises as domains
+use Rattle.c_api.specs.Memory.{unless-refused, verdict-number, regular-memory, fine-memory, scan-memory, marks-memory, domain-memory}
 use Rattle.c_api.specs.Promise.{Promised}
 
 -- the number that an answer carries is the one that refuses
@@ -46,8 +53,62 @@ module _ (s : Segment) where
 through : {m n k : ℕ} {P : Type 0} → m ≡ n → (n ≡ k) ↔ P → (m ≡ k) ↔ P
 through e i = (λ f. i .0 (sym e ∙ f), λ p. e ∙ i .1 p)
 
+-- ---- scans
+
+-- a scan's answer refuses by a number exactly where it carries it
+scan-number-refuses : (a : ScanAnswer) (n : ℕ) → scan-refusal a ≡ suc n → a ≡ scan-variants.Refused (suc n)
+unfolding scan-refusal
+scan-number-refuses (scan-variants.Refused k) n e = ap scan-variants.Refused e
+scan-number-refuses (scan-variants.Listed k) n e = absurd (omega (arith, e))
+
+refuses-scan-number : {a : ScanAnswer} {n : ℕ} → a ≡ scan-variants.Refused n → scan-refusal a ≡ n
+unfolding scan-refusal
+refuses-scan-number e = rw e
+
+scan-kept : {a : ScanAnswer} {n : ℕ} (old : ℕ) → a ≡ scan-variants.Refused n → scan-memory a old ≡ old
+unfolding scan-memory
+scan-kept old e = rw e
+
+module _ (M a b N w : ℕ) (list : List ℕ) where
+  r : Scan-right M a b N w list
+  r = domains.promised .scans M a b N w list
+
+  scan-accepted : (scan-refusal (scan-answer M a b N w (length list)) ≡ 0) ↔ (Accepted (segment M a b N w) × (length (segment-hard-list (segment M a b N w)) ≤ length list))
+  scan-accepted = (to (scan-answer M a b N w (length list)) refl, λ h. back (r .listed _ .1 (h .0, h .1, refl)))
+    where
+      to : (x : ScanAnswer) → scan-answer M a b N w (length list) ≡ x → scan-refusal x ≡ 0
+          → Accepted (segment M a b N w) × (length (segment-hard-list (segment M a b N w)) ≤ length list)
+      to (scan-variants.Refused n) e z = absurd (domains.scan-back _ _ (r .refused n .0 e) .1 (unfold scan-refusal in z))
+      to (scan-variants.Listed n) e z = let t = r .listed n .0 e in (t .0, t .1)
+
+      back : {n : ℕ} → scan-answer M a b N w (length list) ≡ scan-variants.Listed n → scan-refusal (scan-answer M a b N w (length list)) ≡ 0
+      back e = unfold scan-refusal in rw e refl
+
+  scan-refuses : (n : ℕ) → (scan-refusal (scan-answer M a b N w (length list)) ≡ suc n) ↔ Scan-refused-for (segment M a b N w) (length list) (suc n)
+  scan-refuses n = (
+    λ e. r .refused (suc n) .0 (scan-number-refuses (scan-answer M a b N w (length list)) n e),
+    λ f. refuses-scan-number (r .refused (suc n) .1 f),
+  )
+
+  scan-unchanged : (n old : ℕ) → scan-refusal (scan-answer M a b N w (length list)) ≡ suc n
+      → (scan-memory (scan-answer M a b N w (length list)) old ≡ old) × (scan-left M a b N w list ≡ list)
+  scan-unchanged n old e =
+      let f : scan-answer M a b N w (length list) ≡ scan-variants.Refused (suc n) = scan-number-refuses (scan-answer M a b N w (length list)) n e in
+      (scan-kept old f, r .unchanged (suc n) f)
+
+-- ---- domains
+
+-- on a refusal what was there, else what is answered
+kept : {A : Type 0} {n k : ℕ} (old answered : A) → n ≡ suc k → unless-refused n old answered ≡ old
+unfolding unless-refused
+kept old answered e = rw e
+
+handed-over : {A : Type 0} {n : ℕ} (old answered : A) → n ≡ 0 → unless-refused n old answered ≡ answered
+unfolding unless-refused
+handed-over old answered e = rw e
+
 pub promised : Promised
-unfolding verdict-number regular-memory fine-memory regular-answer fine-answer
+unfolding verdict-number regular-memory fine-memory scan-memory marks-memory domain-memory regular-answer fine-answer
 promised =
     record {
       clear-is-1 = refl;
@@ -61,4 +122,10 @@ promised =
       fine-refused = λ M a b N w n. let s : Segment = segment M a b N w in through (fine-number (refusal s) s) (some s n);
       fine-unchanged = λ M a b N w n old e. let s : Segment = segment M a b N w in fine-kept (refusal s) n s old (sym (fine-number (refusal s) s) ∙ e);
       fine-numbers = λ f old. refl;
+      scan-accepted = scan-accepted;
+      scan-refused = λ M a b N w n list. scan-refuses M a b N w list n;
+      scan-unchanged = λ M a b N w n list old. scan-unchanged M a b N w list n old;
+      scan-number = λ n old. refl;
+      domain-unchanged = λ a n marks searched e. (kept marks _ e, kept searched _ e);
+      domain-numbers = λ a marks searched e. (handed-over marks _ e, handed-over searched _ e);
     }

@@ -217,7 +217,7 @@ told (scan-variants.Listed n) = n
 
 module _ (s : Segment) (places : ℕ) where
   -- a number whose condition holds is the one that refuses
-  scan-back : {n : ℕ} → Scan-refused-for s places n → (scan-number s places ≡ n) × (n ≡ 0 → ⊥)
+  pub scan-back : {n : ℕ} → Scan-refused-for s places n → (scan-number s places ≡ n) × (n ≡ 0 → ⊥)
   scan-back (as-segment {n} f) = (chosen n (segment-refusals.refused-number f) (segment-refusals.refused-some f), segment-refusals.refused-some f)
     where
       chosen : (n : ℕ) → segment-specs.refusal s ≡ n → (n ≡ 0 → ⊥) → scan-number s places ≡ n

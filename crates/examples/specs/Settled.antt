@@ -2,6 +2,7 @@
 use mathlib.Core.Path.{_≡_}
 use mathlib.Core.List.{[], _∷_}
 use Prim.Native.Nat.{ℕ}
+use lib.IntN.{pos, negsuc}
 use lib.ListN.{replicate}
 use Rattle.expansion.specs.Rows.{expansion, remainders, denominators, quotients}
 use Rattle.expansion.specs.Configurations.{counts, regular, fine}
@@ -11,6 +12,9 @@ use Rattle.segment.specs.Answer.{verdict-at, regular-shown, fine-shown, regular
 use Rattle.segment.specs.declared.Verdict.the-variants.{Clear, Possible}
 use Rattle.segment.specs.declared.RegularAnswer.the-variants as regular-variants
 use Rattle.segment.specs.declared.FineAnswer.the-variants as fine-variants
+use Rattle.domain.specs.Domain.{segment-hard-list}
+use Rattle.domain.specs.Answer.{scan-answer, scan-left, domain-answer, domain-left}
+use Rattle.domain.specs.declared.ScanAnswer.the-variants as scan-variants
 
 -- the expansion of 45 and 14, the call's whole answer, and the counts of its regular and fine configurations
 pub record Example-1 : Type 0 where
@@ -86,6 +90,35 @@ pub record Example-8 : Type 0 where
   pub fine-answers : fine-answer 45 14 44 1 44
       ≡ fine-variants.Shown (record { count = 1; index = 0; part = 0; distance = 44; argument = 0; verdict = Clear })
 
+-- the scan of M 45, a 14, b 44, N 16: w 6 lists 3, 6; w 3 lists 3; w 0 lists none. A place more stays as it was, and w 6 with one place is 7
+pub record Example-9 : Type 0 where
+  pub hard-6 : segment-hard-list (segment 45 14 44 16 6) ≡ 3 ∷ 6 ∷ []
+  pub hard-3 : segment-hard-list (segment 45 14 44 16 3) ≡ 3 ∷ []
+  pub hard-0 : segment-hard-list (segment 45 14 44 16 0) ≡ []
+  pub answered-6 : scan-answer 45 14 44 16 6 2 ≡ scan-variants.Listed 2
+  pub left-6 : (x y z : ℕ) → scan-left 45 14 44 16 6 (x ∷ y ∷ z ∷ []) ≡ 3 ∷ 6 ∷ z ∷ []
+  pub answered-3 : scan-answer 45 14 44 16 3 1 ≡ scan-variants.Listed 1
+  pub left-3 : (x : ℕ) → scan-left 45 14 44 16 3 (x ∷ []) ≡ 3 ∷ []
+  pub answered-0 : scan-answer 45 14 44 16 0 0 ≡ scan-variants.Listed 0
+  pub left-0 : (x : ℕ) → scan-left 45 14 44 16 0 (x ∷ []) ≡ x ∷ []
+  pub too-few : scan-answer 45 14 44 16 6 1 ≡ scan-variants.Refused 7
+  pub left-too-few : (x : ℕ) → scan-left 45 14 44 16 6 (x ∷ []) ≡ x ∷ []
+
+-- the domain of job J, M 45, c0 44, c1 31, s 0, N 16, w 3: possible, parts 12111111, list 3
+pub record Domain-of-10 : Type 0 where
+  pub answered : domain-answer 45 44 31 (pos 0) 16 3 4096
+      ≡ record { refusal = 0; first = Possible; marks = 1 ∷ 2 ∷ 1 ∷ 1 ∷ 1 ∷ 1 ∷ 1 ∷ 1 ∷ []; listed = 1 }
+  pub left : (x y : ℕ) → domain-left 45 44 31 (pos 0) 16 3 (x ∷ y ∷ []) ≡ 3 ∷ y ∷ []
+
+-- the domain M 45, c0 0, c1 0, s 1, N 8, w 1: parts 22111111, list 0, 1. With s -1 the same
+pub record Example-11 : Type 0 where
+  pub rising : domain-answer 45 0 0 (pos 1) 8 1 2
+      ≡ record { refusal = 0; first = Possible; marks = 2 ∷ 2 ∷ 1 ∷ 1 ∷ 1 ∷ 1 ∷ 1 ∷ 1 ∷ []; listed = 2 }
+  pub rising-left : (x y : ℕ) → domain-left 45 0 0 (pos 1) 8 1 (x ∷ y ∷ []) ≡ 0 ∷ 1 ∷ []
+  pub falling : domain-answer 45 0 0 (negsuc 0) 8 1 2
+      ≡ record { refusal = 0; first = Possible; marks = 2 ∷ 2 ∷ 1 ∷ 1 ∷ 1 ∷ 1 ∷ 1 ∷ 1 ∷ []; listed = 2 }
+  pub falling-left : (x y : ℕ) → domain-left 45 0 0 (negsuc 0) 8 1 (x ∷ y ∷ []) ≡ 0 ∷ 1 ∷ []
+
 -- all of them
 pub record Settled : Type 0 where
   pub p1 : Example-1
@@ -96,3 +129,6 @@ pub record Settled : Type 0 where
   pub p6 : Example-6
   pub p7 : Example-7
   pub p8 : Example-8
+  pub p9 : Example-9
+  pub p10-domain : Domain-of-10
+  pub p11 : Example-11
