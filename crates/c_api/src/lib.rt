@@ -1,5 +1,6 @@
 // The calls as C functions: numbers in, the answer into the caller's memory. Each contract is by the definitions of the call itself.
-// A pointer that is passed points to as many numbers as its array type says, and no two of them overlap: that is C's side to keep.
+// A pointer that is passed points to as many numbers as its array type says, and no two of them overlap: that is C's side to keep. A list is
+// two arguments in C, the pointer and after it a usize, the number of its places; it points to so many.
 ghost use mathlib.Core.Path.{_≡_};
 ghost use lib.ListN.{length};
 ghost use Rattle.expansion.specs.Answer.{answer};

@@ -10,11 +10,10 @@ use lib.Dec.{ltb}
 use Rattle.numbers.proofs.Congruences.{Congruent, equals, flip, chain, plus, times, cancel, none, remainder, same}
 use Rattle.numbers.proofs.Selections.{having-same}
 use Rattle.segment.specs.Segment.{Segment, residue, Accepted}
-use Rattle.segment.specs.Promise.{Residues-right}
-use Rattle.segment.proofs.Promises as segment
 use Rattle.domain.specs.Domain.{Fair, triangle, shifted, value-at, is-hard, hard-list, segment-hard-list}
 use Rattle.domain.specs.declared.part.Domain.{Domain}
 use Rattle.domain.proofs.Values.{value-below, shifted-by}
+use Rattle.domain.proofs.Clearing.{residue-by, residue-below}
 
 -- the slope is the step's opposite
 abbrev pub line : Segment → Domain
@@ -54,16 +53,13 @@ module _ {s : Segment} (a : Accepted s) where
 
   pub line-value : (x : ℕ) → value-at (line s) x ≡ residue s x
   line-value x =
-      same (value-below (line s) some x) (r .in-range x)
+      same (value-below (line s) some x) (residue-below s x some)
       (cancel (s .step * x)
       (chain (plus along (equals {a = s .step * x} refl))
       (chain (equals (omega arith))
       (chain (plus (equals {a = s .start} refl) (times x opposite))
-      (chain (equals (omega arith)) (chain (equals (sym (r .congruent x))) (remainder (residue s x + s .step * x) (s .modulus))))))))
+      (chain (equals (omega arith)) (flip (residue-by s x some)))))))
     where
-      r : Residues-right s
-      r = segment.promised .residues s a
-
       along : Congruent (s .modulus) (value-at (line s) x) (s .start + line s .slope * x)
       along =
           unfold value-at in

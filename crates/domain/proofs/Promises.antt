@@ -1,6 +1,6 @@
 -- All that is promised of domains and scans. Assumes nothing.
-use mathlib.Core.Path.{_≡_, refl, sym, _∙_, ap, subst}
-use mathlib.Core.Bool.{true}
+use mathlib.Core.Path.{_≡_, refl, sym, _∙_, ap, ap₂, subst}
+use mathlib.Core.Bool.{true, false}
 use mathlib.Core.List.{List, []}
 use mathlib.Core.Logic.{_↔_, ⊎-elim, by-cases}
 use Prim.Native.Nat.{ℕ, zero, suc, _+_, _-_, _*_, _%_, _≤_, _<_}
@@ -8,30 +8,44 @@ use native.Mathlib.Nat.{add-zero}
 use native.Mathlib.Decide.{decLt}
 use native.Mathlib.Omega.{arith}
 use lib.IntN.{ℤ, pos, negsuc, natAbs}
-use lib.ListN.{length, replicate}
+use lib.ListN.{length, take}
 use Rattle.numbers.specs.Lists.{in-front}
-use Rattle.numbers.proofs.Congruences.{same-remainder, remainder, chain, flip}
-use Rattle.numbers.proofs.Selections.{in-front-length, in-front-at, in-front-after}
+use Rattle.numbers.proofs.Congruences.{Congruent, equals, flip, chain, cancel, same, same-remainder, by-remainders, doubled, halved}
+use Rattle.numbers.proofs.Selections.{in-front-length, in-front-at, in-front-after, taken-front}
 use Rattle.segment.specs.Segment.{Segment, segment}
 use Rattle.segment.specs.Segment as segment-specs
 use Rattle.segment.specs.Promise as segment-promise
 use Rattle.segment.specs.declared.Verdict.the-variants.{Clear, Possible}
 use Rattle.segment.proofs.Refusals as segment-refusals
 use Rattle.domain.specs.Domain.{Accepted, domain, is-negative, triangle, shifted, value-at, slope-at, hard-list, segment-hard-list, first-verdict, marks-after}
-use Rattle.domain.specs.Answer.{refusal, overflow, or-else, left-in, refused, reported, domain-number, domain-answer-with, domain-answer, domain-left, scan-number, scan-answer-with, scan-answer, scan-left}
-use Rattle.domain.specs.Promise.{Values-right, Hard, Refused-for, Scan-refused-for, Left-right, Marks-right, Domain-right, Scan-right, Promised}
+use Rattle.domain.specs.Answer.{refusal, overflow, or-else, left-in, refused, reported, domain-number, domain-answer-with, domain-answer, domain-left, scan-number, scan-answer-with, scan-answer, scan-left, scan-refusal, scan-count}
+use Rattle.domain.specs.Promise.{Domain-of, Hard-in-numbers, Lists, Values-right, Hard, Refused-for, Scan-refused-for, Left-right, Marks-right, Domain-right, Scan-right, Promised}
 use Rattle.domain.specs.Promise.Refused-for.{modulus-outside, slope-outside, value-outside, count-outside, window-outside, curve-outside, too-many}
 use Rattle.domain.specs.Promise.Scan-refused-for.{as-segment, too-many as scan-too-many}
 use Rattle.domain.specs.declared.part.Domain.{Domain}
 use Rattle.domain.specs.declared.DomainAnswer.{DomainAnswer}
 use Rattle.domain.specs.declared.ScanAnswer.{ScanAnswer}
 use Rattle.domain.specs.declared.ScanAnswer.the-variants as scan-variants
-use Rattle.domain.proofs.Values.{shifted-by, square, triangle-double, value-below, slope-below, value-next}
-use Rattle.domain.proofs.Clearing.{first-clears, none-listed}
+use Rattle.domain.proofs.Values.{shifted-below, shifted-by, square, triangle-double, value-below, slope-below, value-next}
+use Rattle.domain.proofs.Clearing.{covers, first-clears, none-listed}
 use Rattle.domain.proofs.Refusals.{decide, unrefused, accepted, refused-number}
 use Rattle.domain.proofs.Answers.{too-few, enough}
 use Rattle.domain.proofs.Members.{hard-lists, segment-lists}
-use Rattle.domain.proofs.Verdicts.{covered, parts-right, phases-right, marks-right}
+use Rattle.domain.proofs.Verdicts.{covering-right, parts-right, phases-right, marks-right}
+
+-- ---- the numbers of a call
+
+numbers : (M c0 c1 : ℕ) (s : ℤ) (N w : ℕ) → Domain-of M c0 c1 s N w
+numbers M c0 c1 s N w =
+    record {
+      modulus = refl;
+      value = refl;
+      slope = refl;
+      count = refl;
+      window = refl;
+      curve = λ n e. unfold is-negative in rw e (refl, refl);
+      negative-curve = λ n e. unfold is-negative in rw e (refl, refl);
+    }
 
 -- ---- values
 
@@ -132,6 +146,55 @@ left-listed xs old e = rw e
 
 -- ---- domains
 
+-- what is congruent to the terms of V(x), doubled, is V(x)
+doubled-value : (M a b u v : ℕ) → u < M → v < M → Congruent M (u + b) a → Congruent (2 * M) (2 * (v + b)) (2 * a) → v ≡ u
+doubled-value M a b u v low l p q = same l low (cancel b (chain (halved q) (flip p)))
+
+-- hard in the call's own numbers, and by the definition of values
+module _ (M c0 c1 n N w : ℕ) (some : 0 < M) (x : ℕ) where
+  halves : triangle x + triangle x ≡ x * (x - 1)
+  halves = omega (arith, triangle-double x, square x)
+
+  module _ (u : ℕ) (low : u < M) where
+    rising-numbers : Congruent M (u + 0) (c0 + c1 * x + n * triangle x)
+        → ((x < N) × (u < w)) ↔ ((x < N) × ((v : ℕ) × (v < M) × (v < w) × (2 * v % (2 * M) ≡ (2 * (c0 + c1 * x) + n * (x * (x - 1))) % (2 * M))))
+    rising-numbers p = (
+      λ h. (h .0, (u, low, h .1, same-remainder (chain (equals (omega arith)) (chain (doubled p) (equals twice))))),
+      λ h.
+          let v = h .1 .0 in
+          let e : v ≡ u
+          = doubled-value M (c0 + c1 * x + n * triangle x) 0 u v low (h .1 .1) p
+          (chain (equals (omega arith)) (chain (by-remainders (h .1 .3)) (equals (sym twice)))) in
+          (h .0, omega (arith, e, h .1 .2)),
+    )
+      where
+        twice : 2 * (c0 + c1 * x + n * triangle x) ≡ 2 * (c0 + c1 * x) + n * (x * (x - 1))
+        twice = omega (arith, ap (λ (k : ℕ). n * k) halves)
+
+    falling-numbers : Congruent M (u + suc n * triangle x) (c0 + c1 * x + 0)
+        → ((x < N) × (u < w)) ↔ ((x < N) × ((v : ℕ) × (v < M) × (v < w) × ((2 * v + suc n * (x * (x - 1))) % (2 * M) ≡ 2 * (c0 + c1 * x) % (2 * M))))
+    falling-numbers p = (
+      λ h. (h .0, (u, low, h .1, same-remainder (chain (equals (sym (twice u))) (chain (doubled p) (equals (omega arith)))))),
+      λ h.
+          let v = h .1 .0 in
+          let e : v ≡ u
+          = doubled-value M (c0 + c1 * x + 0) (suc n * triangle x) u v low (h .1 .1) p
+          (chain (equals (twice v)) (chain (by-remainders (h .1 .3)) (equals (omega arith)))) in
+          (h .0, omega (arith, e, h .1 .2)),
+    )
+      where
+        twice : (v : ℕ) → 2 * (v + suc n * triangle x) ≡ 2 * v + suc n * (x * (x - 1))
+        twice v = omega (arith, ap (λ (k : ℕ). suc n * k) halves)
+
+hard-by-numbers : (M c0 c1 : ℕ) (s : ℤ) (N w : ℕ) → 0 < M → (x : ℕ) → Hard (domain M c0 c1 s N w) x ↔ Hard-in-numbers M c0 c1 s N w x
+unfolding Hard-in-numbers value-at is-negative
+hard-by-numbers M c0 c1 (pos n) N w some x =
+    rising-numbers M c0 c1 n N w some x _ (shifted-below M (c0 + c1 * x) some false (n * triangle x))
+    (shifted-by M (c0 + c1 * x) some false (n * triangle x))
+hard-by-numbers M c0 c1 (negsuc n) N w some x =
+    falling-numbers M c0 c1 n N w some x _ (shifted-below M (c0 + c1 * x) some true (suc n * triangle x))
+    (shifted-by M (c0 + c1 * x) some true (suc n * triangle x))
+
 -- the number that an answer carries
 answer-number : (n : ℕ) (d : Domain) → domain-answer-with n d .refusal ≡ n
 unfolding domain-answer-with reported refused
@@ -163,6 +226,7 @@ domains M c0 c1 s N w old =
       listed = listed;
       cleared = λ e c. cleared e (sym (first e) ∙ c);
       left = λ e. subst (Left-right (hard-list d) old) (sym (left-listed (hard-list d) old (sym number ∙ e))) (left-right (hard-list d) old (taken e .1));
+      hard = hard;
     }
   where
     d : Domain
@@ -194,6 +258,28 @@ domains M c0 c1 s N w old =
 
     empty-front : hard-list d ≡ [] → in-front (hard-list d) old ≡ old
     empty-front e = unfold in-front in rw e refl
+
+    -- what lies in the caller's list
+    front : domain-answer-with (domain-number d places) d .refusal ≡ 0
+        → take (domain-answer-with (domain-number d places) d .listed) (left-in (domain-number d places) (hard-list d) old) ≡ hard-list d
+    front e = ap₂ take (listed e) (left-listed (hard-list d) old (sym number ∙ e)) ∙ taken-front (hard-list d) old
+
+    in-numbers : domain-answer-with (domain-number d places) d .refusal ≡ 0
+        → Lists (Hard-in-numbers M c0 c1 s N w) (domain-answer-with (domain-number d places) d .listed) (hard-list d)
+    in-numbers e =
+        let l = hard-lists d (taken e .0) in
+        let h = hard-by-numbers M c0 c1 s N w (omega (arith, taken e .0 .fair .value-below)) in
+        record {
+          exactly = λ x. (λ m. h x .0 (l .exactly x .0 m), λ g. l .exactly x .1 (h x .1 g));
+          ascending = l .ascending;
+          fits = l .fits;
+          counted = sym (listed e);
+        }
+
+    hard : domain-answer-with (domain-number d places) d .refusal ≡ 0
+        → Lists (Hard-in-numbers M c0 c1 s N w) (domain-answer-with (domain-number d places) d .listed)
+        (take (domain-answer-with (domain-number d places) d .listed) (left-in (domain-number d places) (hard-list d) old))
+    hard e = subst (Lists (Hard-in-numbers M c0 c1 s N w) (domain-answer-with (domain-number d places) d .listed)) (sym (front e)) (in-numbers e)
 
     cleared : domain-answer-with (domain-number d places) d .refusal ≡ 0 → first-verdict d ≡ Clear
         → (domain-answer-with (domain-number d places) d .listed ≡ 0) × (left-in (domain-number d places) (hard-list d) old ≡ old) × ((x : ℕ) → Hard d x → ⊥)
@@ -277,6 +363,7 @@ scans M a b N w old =
       left = λ n e. let z = answer-lists s number n e .0 in
           subst (Left-right (segment-hard-list s) old) (sym (left-listed (segment-hard-list s) old z))
           (left-right (segment-hard-list s) old (scan-accepts s places .0 z .1));
+      hard = λ n e. hard n (answer-lists s number n e);
     }
   where
     s : Segment
@@ -292,6 +379,14 @@ scans M a b N w old =
     refused-by zero r = absurd (r .1 refl)
     refused-by (suc n) r = scan-to s places n (r .0)
 
+    hard : (n : ℕ) → (number ≡ 0) × (n ≡ length (segment-hard-list s)) → Lists (segment-specs.Hard s) n (take n (left-in number (segment-hard-list s) old))
+    hard n r =
+        let l = segment-lists s (scan-accepts s places .0 (r .0) .0) in
+        let f : take n (left-in number (segment-hard-list s) old) ≡ segment-hard-list s
+        = ap₂ take (r .1) (left-listed (segment-hard-list s) old (r .0)) ∙ taken-front (segment-hard-list s) old in
+        subst (Lists (segment-specs.Hard s) n) (sym f)
+        (record { exactly = l .exactly; ascending = l .ascending; fits = l .fits; counted = sym (r .1) })
+
     kept : (k : ℕ) → (k ≡ 0 → ⊥) → left-in k (segment-hard-list s) old ≡ old
     kept zero h = absurd (h refl)
     kept (suc k) h = left-refused (segment-hard-list s) old refl
@@ -301,12 +396,15 @@ scans M a b N w old =
 pub promised : Promised
 promised =
     record {
+      numbers = numbers;
       values = values;
       hard-lists = hard-lists;
       segment-lists = segment-lists;
-      coverings = covered;
+      covers = λ d x some low. covers d some low x;
+      coverings = covering-right;
       parts = parts-right;
       phases = phases-right;
       domains = domains;
       scans = scans;
+      scan-numbers = λ n. unfold scan-refusal scan-count in (refl, refl, refl, refl);
     }

@@ -1,29 +1,49 @@
 -- Parts, verdicts and marks as promised. Assumes nothing.
 use mathlib.Core.Path.{_≡_, refl, sym, _∙_, ap}
-use mathlib.Core.List.{List, []}
 use mathlib.Core.Logic.{_↔_}
 use Prim.Native.Nat.{ℕ, zero, suc, _+_, _-_, _*_, _/_, _%_, _≤_, _<_}
 use native.Mathlib.Nat.{mod-lt, div-add-mod', mul-le-mul-right, le-antisymm, lt-of-not-le, add-zero, zero-add}
 use native.Mathlib.Omega.{arith}
-use lib.ListN.{length, getD, replicate, getD-replicate}
-use Rattle.segment.specs.Answer.{verdict-at, regular-answer, regular-answer-with, regular-shown, fine-answer, fine-answer-with, fine-shown}
+use lib.ListN.{length, getD, getD-replicate}
+use Rattle.segment.specs.Answer.{regular-answer, regular-answer-with, regular-shown, fine-answer, fine-answer-with, fine-shown}
 use Rattle.segment.specs.Search.{distance}
 use Rattle.segment.specs.Search.Search.{regular, fine}
+use Rattle.segment.specs.Promise.{Regular-clears, Fine-clears, Cleared}
+use Rattle.segment.specs.declared.RegularAnswer.{RegularAnswer}
+use Rattle.segment.specs.declared.RegularAnswer.the-variants as regular-variants
+use Rattle.segment.specs.declared.FineAnswer.{FineAnswer}
+use Rattle.segment.specs.declared.FineAnswer.the-variants as fine-variants
 use Rattle.segment.specs.declared.Verdict.{Verdict}
 use Rattle.segment.specs.declared.Verdict.the-variants.{Clear, Possible}
 use Rattle.segment.proofs.Refusals as segment-refusals
 use Rattle.segment.proofs.Showing.{clear-iff}
-use Rattle.domain.specs.Domain.{Accepted, Fair, value-at, covering-step, covering-start, covering-window, covering, part-start, part-count, part, regular-verdict, fine-verdict, first-verdict, part-verdict, mark-of, marks-from, marks-after}
-use Rattle.domain.specs.Promise.{Hard, Covered, Parts-right, Phases-right, Marks-right}
+use Rattle.domain.specs.Domain.{Accepted, Fair, triangle, value-at, spread, covering-window, covering, part-start, part-count, part, regular-verdict, fine-verdict, first-verdict, part-verdict, mark-of, marks-from, marks-after}
+use Rattle.domain.specs.Promise.{Hard, Covering-right, Parts-right, Phases-right, Marks-right}
 use Rattle.domain.specs.declared.part.Domain.{Domain}
-use Rattle.domain.proofs.Values.{slope-continues, part-continues}
-use Rattle.domain.proofs.Clearing.{covering-accepted, covers, first-clears, part-clears}
+use Rattle.domain.proofs.Values.{square, triangle-double, slope-continues, part-continues}
+use Rattle.domain.proofs.Clearing.{covering-accepted, residue-rising, residue-falling, first-clears, part-clears}
 use Rattle.domain.proofs.Parts.{part-first, part-next, part-last, part-fair, part-value}
 
 -- ---- coverings and parts
 
-pub covered : (d : Domain) → Fair d → Covered d
-covered d f = record { accepted = covering-accepted f; covers = covers f }
+pub covering-right : (d : Domain) → Fair d → Covering-right d
+covering-right d f =
+    let some : 0 < d .modulus = omega (arith, f .value-below) in
+    record {
+      accepted = covering-accepted f;
+      spread-is = spread-is;
+      modulus = refl;
+      count = refl;
+      window = unfold covering-window in refl;
+      rising = residue-rising d some (f .slope-below);
+      falling = residue-falling d some (f .slope-below);
+    }
+  where
+    spread-is : spread d + spread d ≡ d .size * (d .count * (d .count - 1))
+    spread-is =
+        unfold spread in
+        let e : triangle (d .count) + triangle (d .count) ≡ d .count * (d .count - 1) = omega (arith, triangle-double (d .count), square (d .count)) in
+        omega (arith, ap (λ (n : ℕ). d .size * n) e)
 
 -- of stretches of k numbers one after another, a number is in one only
 not-before : (k i j x : ℕ) → j * k ≤ x → x < i * k + k → j ≤ i
@@ -41,8 +61,8 @@ parts-right d a =
       once = once;
       length-of = λ i. unfold part in refl;
       equal = λ i. unfold part-count in omega (arith, a .count-eighths);
-      fair = part-fair a;
-      covered = λ i. covered (part d i) (part-fair a i);
+      same = λ i. unfold part in (refl, refl, refl, refl);
+      covering-of = λ i. covering-right (part d i) (part-fair a i);
       continues = part-value d some;
       slope = λ i. slope-continues some (part-continues d i);
     }
@@ -69,22 +89,36 @@ parts-right d a =
 
 -- ---- the phases
 
+-- a verdict is clear exactly where the search clears
+regular-clears : (a : RegularAnswer) → (regular-verdict a ≡ Clear) ↔ Regular-clears a
+unfolding regular-verdict Regular-clears mark-of
+regular-clears (regular-variants.Refused n) = (λ e. absurd (omega (arith, ap mark-of e)), λ h. absurd h)
+regular-clears (regular-variants.Shown r) = (λ e. e, λ e. e)
+
+fine-clears : (a : FineAnswer) → (fine-verdict a ≡ Clear) ↔ Fine-clears a
+unfolding fine-verdict Fine-clears mark-of
+fine-clears (fine-variants.Refused n) = (λ e. absurd (omega (arith, ap mark-of e)), λ h. absurd h)
+fine-clears (fine-variants.Shown f) = (λ e. e, λ e. e)
+
 pub phases-right : (d : Domain) → Accepted d → Phases-right d
+unfolding first-verdict part-verdict Cleared
 phases-right d a =
     record {
-      first-clear = first-clear (a .fair);
+      first-cleared = regular-clears _;
+      first-distance = first-distance (a .fair);
       first-none = λ e x h. omega (arith, first-clears (a .fair) e x (h .0), h .1);
-      part-clear = λ i. part-clear (part-fair a i);
+      part-cleared = λ i. fine-clears _;
+      part-distance = λ i. part-distance (part-fair a i);
       part-none = part-none;
     }
   where
-    first-clear : {d : Domain} → Fair d → (first-verdict d ≡ Clear) ↔ (covering d .window ≤ distance regular (covering d))
-    first-clear {d} f =
+    first-distance : {d : Domain} → Fair d → (first-verdict d ≡ Clear) ↔ (covering d .window ≤ distance regular (covering d))
+    first-distance {d} f =
         unfold first-verdict regular-answer regular-answer-with regular-shown regular-verdict in
         rw (segment-refusals.unrefused (covering-accepted f)) (clear-iff (distance regular (covering d)) (covering-window d))
 
-    part-clear : {d : Domain} → Fair d → (part-verdict d ≡ Clear) ↔ (covering d .window ≤ distance fine (covering d))
-    part-clear {d} f =
+    part-distance : {d : Domain} → Fair d → (part-verdict d ≡ Clear) ↔ (covering d .window ≤ distance fine (covering d))
+    part-distance {d} f =
         unfold part-verdict fine-answer fine-answer-with fine-shown fine-verdict in
         rw (segment-refusals.unrefused (covering-accepted f)) (clear-iff (distance fine (covering d)) (covering-window d))
 
@@ -142,6 +176,11 @@ mark-at d i h = marks-at d 8 0 i h ∙ ap (λ (j : ℕ). mark-of (part-verdict (
 through : {m n k : ℕ} {P : Type 0} → m ≡ n → (n ≡ k) ↔ P → (m ≡ k) ↔ P
 through e i = (λ f. i .0 (sym e ∙ f), λ p. e ∙ i .1 p)
 
+-- a verdict that is not clear is possible
+otherwise : (v : Verdict) → (v ≡ Clear → ⊥) → v ≡ Possible
+otherwise Clear h = absurd (h refl)
+otherwise Possible h = refl
+
 pub marks-right : (d : Domain) → Accepted d → (v : Verdict) → Marks-right d v (marks-after v d)
 unfolding marks-after
 marks-right d a Clear =
@@ -151,6 +190,7 @@ marks-right d a Clear =
       clear = λ e. absurd (apart e);
       possible = λ e. absurd (apart e);
       none-hard = λ i h e. absurd (omega (arith, e, getD-replicate {A = ℕ} 8 i 0 0 h));
+      hard-in-2 = λ e. absurd (apart e);
     }
   where
     apart : Clear ≡ Possible → ⊥
@@ -162,6 +202,7 @@ marks-right d a Possible =
       clear = λ e i h. through (mark-at d i h) (mark-clear (part-verdict (part d i)));
       possible = λ e i h. through (mark-at d i h) (mark-possible (part-verdict (part d i)));
       none-hard = λ i h e. phases-right d a .part-none i (mark-clear (part-verdict (part d i)) .0 (sym (mark-at d i h) ∙ e));
+      hard-in-2 = λ e i h x l k v. mark-at d i h ∙ mark-possible (part-verdict (part d i)) .1 (otherwise (part-verdict (part d i)) (λ c. phases-right d a .part-none i c x l k v));
     }
   where
     apart : Possible ≡ Clear → ⊥

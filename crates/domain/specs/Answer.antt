@@ -15,7 +15,7 @@ use Rattle.domain.specs.declared.DomainAnswer.{DomainAnswer}
 use Rattle.domain.specs.declared.ScanAnswer.{ScanAnswer}
 use Rattle.domain.specs.declared.ScanAnswer.the-variants as scan-variants
 
--- 6 where a curve of such a size is outside -1,048,576 to 1,048,576
+-- 6 where a curve of such a size is outside -1,048,576 to 1,048,576, else 0
 unfoldable pub curve-refusal : (size : ℕ) → ℕ
 curve-refusal size = cond (ltb 1048576 size) 6 0
 
@@ -29,7 +29,7 @@ refusal d =
     (cond (not (leb 8 (d .count) && leb (d .count) 1048576 && eqb (d .count % 8) 0)) 4
     (cond (ltb (d .modulus) (d .window)) 5 (curve-refusal (d .size))))))
 
--- 7 where a list has more entries than there are places
+-- 7 where a list has more entries than there are places, else 0
 unfoldable pub overflow : (xs : List ℕ) → (places : ℕ) → ℕ
 overflow xs places = cond (ltb places (length xs)) 7 0
 
@@ -94,3 +94,8 @@ scan-left M a b N w old = left-in (scan-number (segment M a b N w) (length old))
 unfoldable pub scan-refusal : ScanAnswer → ℕ
 scan-refusal (scan-variants.Refused n) = n
 scan-refusal (scan-variants.Listed n) = 0
+
+-- how many it listed; 0 where it refuses
+unfoldable pub scan-count : ScanAnswer → ℕ
+scan-count (scan-variants.Refused n) = 0
+scan-count (scan-variants.Listed n) = n

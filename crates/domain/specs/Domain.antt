@@ -84,7 +84,7 @@ covering-start d = cond (d .falling) (d .value) ((d .value + spread d) % d .modu
 unfoldable pub covering-window : Domain → ℕ
 covering-window d = min (d .modulus) (d .window + spread d)
 
--- the segment whose residue is less than its window wherever the domain's value is less than w
+-- the segment whose residue is less than its window wherever the domain's value at an argument below N is less than w
 abbrev pub covering : Domain → Segment
 covering d = segment (d .modulus) (covering-step d) (covering-start d) (d .count) (covering-window d)
 
@@ -147,7 +147,7 @@ marks-after Possible d = marks-from 8 0 d
 
 -- ---- bounds
 
--- a domain, or a part of one, whose numbers are as small as they are asked to be
+-- all that is asked of a domain but that it has eight equal parts; it holds of the parts too
 pub record Fair (d : Domain) : Type 0 where
   pub modulus-low : 2 ≤ d .modulus
   pub modulus-high : d .modulus ≤ 2 ^ 62
@@ -158,7 +158,7 @@ pub record Fair (d : Domain) : Type 0 where
   pub window-within : d .window ≤ d .modulus
   pub size-small : d .size ≤ 1048576
 
--- what is asked of a domain: eight parts of equal length too
+-- what is asked of a domain
 pub record Accepted (d : Domain) : Type 0 where
   pub fair : Fair d
   pub count-some : 8 ≤ d .count

@@ -1,4 +1,4 @@
--- What is known of the parts of a domain after phase 2, for the contracts of the functions that look at them. Assumes nothing: these are definitions.
+-- What is known of the parts of a domain before anything is listed, for the contracts of the functions that look at them. Assumes nothing: these are definitions.
 use mathlib.Core.List.{List, [], _∷_}
 use Prim.Native.Nat.{ℕ, zero, suc}
 use lib.ListN.{length}

@@ -1,25 +1,46 @@
 -- What is promised of domains and of scans (the second demand), with the letters of document 01: M the modulus, c0 the value, c1 the slope,
--- s the curve, N the count, w the window, D the spread; of a segment a the step and b the start. `Promised`, at the end, is all of it;
+-- s the curve, N the count, w the window; of a segment a the step and b the start. `Promised`, at the end, is all of it;
 -- proofs/Promises.antt proves it. Assumes nothing: these are statements.
 use mathlib.Core.Path.{_≡_}
+use mathlib.Core.Bool.{true, false}
 use mathlib.Core.List.{List, List·Memᴰ}
 use mathlib.Core.Logic.{_↔_, _⊎_}
-use Prim.Native.Nat.{ℕ, suc, _+_, _-_, _*_, _%_, _^_, _≤_, _<_}
+use Prim.Native.Nat.{ℕ, suc, _+_, _-_, _*_, _%_, _^_, _≤_, _<_, min}
 use lib.Dec.{ltb}
 use lib.IntN.{ℤ, pos, negsuc}
-use lib.ListN.{length, getD, replicate}
+use lib.ListN.{length, getD, take, replicate}
 use Rattle.numbers.specs.Lists.{Ascending, how-many}
 use Rattle.segment.specs.Segment.{Segment, segment, residue}
 use Rattle.segment.specs.Segment as segment-specs
-use Rattle.segment.specs.Search.{distance}
+use Rattle.segment.specs.Search.{Search, distance}
 use Rattle.segment.specs.Search.Search.{regular, fine}
 use Rattle.segment.specs.Promise as segment-promise
 use Rattle.segment.specs.declared.Verdict.{Verdict}
 use Rattle.segment.specs.declared.Verdict.the-variants.{Clear, Possible}
-use Rattle.domain.specs.Domain.{domain, triangle, value-at, slope-at, is-hard, hard-list, segment-hard-list, covering, part-start, part-count, part, first-verdict, part-verdict, Fair, Accepted}
-use Rattle.domain.specs.Answer.{domain-answer, domain-left, scan-answer, scan-left}
+use Rattle.domain.specs.Domain.{domain, triangle, value-at, slope-at, is-hard, hard-list, segment-hard-list, spread, covering, part-start, part-count, part, first-verdict, part-verdict, Fair, Accepted}
+use Rattle.domain.specs.Answer.{domain-answer, domain-left, scan-answer, scan-left, scan-refusal, scan-count}
 use Rattle.domain.specs.declared.part.Domain.{Domain}
 use Rattle.domain.specs.declared.ScanAnswer.the-variants.{Refused, Listed}
+
+-- ---- the numbers of a call
+
+-- the domain of six numbers has these numbers; its curve is kept as a sign and a size
+pub record Domain-of (M c0 c1 : ℕ) (s : ℤ) (N w : ℕ) : Type 0 where
+  pub modulus : domain M c0 c1 s N w .modulus ≡ M
+  pub value : domain M c0 c1 s N w .value ≡ c0
+  pub slope : domain M c0 c1 s N w .slope ≡ c1
+  pub count : domain M c0 c1 s N w .count ≡ N
+  pub window : domain M c0 c1 s N w .window ≡ w
+  pub curve : (n : ℕ) → s ≡ pos n → (domain M c0 c1 s N w .falling ≡ false) × (domain M c0 c1 s N w .size ≡ n)
+  pub negative-curve : (n : ℕ) → s ≡ negsuc n → (domain M c0 c1 s N w .falling ≡ true) × (domain M c0 c1 s N w .size ≡ suc n)
+
+-- what hard means in the call's own numbers: a v below M and below w that differs from c0 + c1·x + s·x(x-1)/2 by a multiple of M. All is
+-- doubled, so that nothing is halved
+unfoldable pub Hard-in-numbers : (M c0 c1 : ℕ) → (s : ℤ) → (N w x : ℕ) → Type 0
+Hard-in-numbers M c0 c1 (pos n) N w x =
+    (x < N) × ((v : ℕ) × (v < M) × (v < w) × (2 * v % (2 * M) ≡ (2 * (c0 + c1 * x) + n * (x * (x - 1))) % (2 * M)))
+Hard-in-numbers M c0 c1 (negsuc n) N w x =
+    (x < N) × ((v : ℕ) × (v < M) × (v < w) × ((2 * v + suc n * (x * (x - 1))) % (2 * M) ≡ 2 * (c0 + c1 * x) % (2 * M)))
 
 -- ---- values
 
@@ -44,20 +65,32 @@ abbrev pub Hard : Domain → (x : ℕ) → Type 0
 Hard d x = (x < d .count) × (value-at d x < d .window)
 
 -- a list has exactly the numbers that are hard, each once and ascending; they fit 32 bits, and there are as many as are counted
-pub record Lists (hard : (x : ℕ) → Type 0) (count : ℕ) (xs : List ℕ) : Type 0 where
+pub record Lists (hard : (x : ℕ) → Type 0) (number : ℕ) (xs : List ℕ) : Type 0 where
   pub exactly : (x : ℕ) → List·Memᴰ x xs ↔ hard x
   pub ascending : Ascending xs
   pub fits : (x : ℕ) → List·Memᴰ x xs → x < 2 ^ 32
-  pub counted : length xs ≡ count
+  pub counted : length xs ≡ number
 
 -- ---- the covering segment and the parts
 
--- the covering segment is accepted by the searches, and wherever a value is less than the window, its residue is less than its own
-pub record Covered (d : Domain) : Type 0 where
-  pub accepted : segment-specs.Accepted (covering d)
-  pub covers : (x : ℕ) → x < d .count → value-at d x < d .window → residue (covering d) x < covering d .window
+-- wherever a value below N is less than the window, the covering segment's residue is less than its own
+abbrev pub Covers : Type 0
+Covers =
+    (d : Domain) (x : ℕ) → 0 < d .modulus → d .slope < d .modulus → x < d .count → value-at d x < d .window → residue (covering d) x < covering d .window
 
--- parts cover the arguments from 0 to N - 1 once each, in order, and each goes on where the domain is
+-- the covering segment: accepted by the searches, with the domain's modulus and count; its window is the smaller of M and w + D. It lies above
+-- the values exactly by what the curve may still add to them, D at 0 and nothing at N, or by what it has taken from them, nothing at 0 and D at N
+pub record Covering-right (d : Domain) : Type 0 where
+  pub accepted : segment-specs.Accepted (covering d)
+  pub spread-is : spread d + spread d ≡ d .size * (d .count * (d .count - 1))
+  pub modulus : covering d .modulus ≡ d .modulus
+  pub count : covering d .count ≡ d .count
+  pub window : covering d .window ≡ min (d .modulus) (d .window + spread d)
+  pub rising : d .falling ≡ false → (x : ℕ) → x ≤ d .count
+      → residue (covering d) x ≡ (value-at d x + (spread d - d .size * triangle x)) % d .modulus
+  pub falling : d .falling ≡ true → (x : ℕ) → residue (covering d) x ≡ (value-at d x + d .size * triangle x) % d .modulus
+
+-- parts cover the arguments from 0 to N - 1 once each, in order; a part's value at y is the domain's at the part's beginning and y more
 pub record Parts-right (d : Domain) : Type 0 where
   pub first : part-start d 0 ≡ 0
   pub next : (i : ℕ) → part-start d (suc i) ≡ part-start d i + part-count d i
@@ -66,29 +99,37 @@ pub record Parts-right (d : Domain) : Type 0 where
       × ((j : ℕ) → j < 8 → part-start d j ≤ x → x < part-start d j + part-count d j → j ≡ i)
   pub length-of : (i : ℕ) → part d i .count ≡ part-count d i
   pub equal : (i : ℕ) → part-count d i * 8 ≡ d .count
-  pub fair : (i : ℕ) → Fair (part d i)
-  pub covered : (i : ℕ) → Covered (part d i)
+  pub same : (i : ℕ) → (part d i .modulus ≡ d .modulus) × (part d i .falling ≡ d .falling) × (part d i .size ≡ d .size) × (part d i .window ≡ d .window)
+  pub covering-of : (i : ℕ) → Covering-right (part d i)
   pub continues : (i y : ℕ) → value-at (part d i) y ≡ value-at d (part-start d i + y)
   pub slope : (i y : ℕ) → slope-at (part d i) y ≡ slope-at d (part-start d i + y)
 
 -- ---- the phases
 
--- phase 1 clears a domain exactly where the regular search of its covering segment has a distance of at least the window, and then no argument
--- is hard; phase 2 does so with the fine search of a part's
+-- a segment is cleared by a search
+abbrev pub Cleared-by : Search → Segment → Type 0
+Cleared-by k s = segment-promise.Cleared k (s .modulus) (s .step) (s .start) (s .count) (s .window)
+
+-- phase 1 clears a domain exactly where the regular search clears its covering segment, that is, where the distance is at least that
+-- segment's window, and then no argument is hard; phase 2 clears a part so by the fine search of the part's covering segment
 pub record Phases-right (d : Domain) : Type 0 where
-  pub first-clear : (first-verdict d ≡ Clear) ↔ (covering d .window ≤ distance regular (covering d))
+  pub first-cleared : (first-verdict d ≡ Clear) ↔ Cleared-by regular (covering d)
+  pub first-distance : (first-verdict d ≡ Clear) ↔ (covering d .window ≤ distance regular (covering d))
   pub first-none : first-verdict d ≡ Clear → (x : ℕ) → Hard d x → ⊥
-  pub part-clear : (i : ℕ) → (part-verdict (part d i) ≡ Clear) ↔ (covering (part d i) .window ≤ distance fine (covering (part d i)))
+  pub part-cleared : (i : ℕ) → (part-verdict (part d i) ≡ Clear) ↔ Cleared-by fine (covering (part d i))
+  pub part-distance : (i : ℕ) → (part-verdict (part d i) ≡ Clear) ↔ (covering (part d i) .window ≤ distance fine (covering (part d i)))
   pub part-none : (i : ℕ) → part-verdict (part d i) ≡ Clear → (x : ℕ) → part-start d i ≤ x → x < part-start d i + part-count d i → value-at d x < d .window → ⊥
 
--- the eight marks: all 0 where phase 1 clears the domain, and then nothing is listed; else 1 where the part is clear, and then no argument of it
--- is hard, or 2 where it is possible
+-- the eight marks: all 0 where phase 1 clears the domain; else 1 where the part is clear, and then no argument of it is hard, or 2 where it is
+-- possible: every hard argument is in a part marked 2
 pub record Marks-right (d : Domain) (first : Verdict) (marks : List ℕ) : Type 0 where
   pub eight : length marks ≡ 8
   pub not-looked-at : first ≡ Clear → (i : ℕ) → i < 8 → getD marks i 0 ≡ 0
   pub clear : first ≡ Possible → (i : ℕ) → i < 8 → (getD marks i 0 ≡ 1) ↔ (part-verdict (part d i) ≡ Clear)
   pub possible : first ≡ Possible → (i : ℕ) → i < 8 → (getD marks i 0 ≡ 2) ↔ (part-verdict (part d i) ≡ Possible)
   pub none-hard : (i : ℕ) → i < 8 → getD marks i 0 ≡ 1 → (x : ℕ) → part-start d i ≤ x → x < part-start d i + part-count d i → value-at d x < d .window → ⊥
+  pub hard-in-2 : first ≡ Possible → (i : ℕ) → i < 8 → (x : ℕ) → part-start d i ≤ x → x < part-start d i + part-count d i → value-at d x < d .window
+      → getD marks i 0 ≡ 2
 
 -- ---- refusals
 
@@ -137,6 +178,10 @@ pub record Domain-right (M c0 c1 : ℕ) (s : ℤ) (N w : ℕ) (old : List ℕ) :
   pub cleared : domain-answer M c0 c1 s N w (length old) .refusal ≡ 0 → domain-answer M c0 c1 s N w (length old) .first ≡ Clear
       → (domain-answer M c0 c1 s N w (length old) .listed ≡ 0) × (domain-left M c0 c1 s N w old ≡ old) × ((x : ℕ) → Hard (domain M c0 c1 s N w) x → ⊥)
   pub left : domain-answer M c0 c1 s N w (length old) .refusal ≡ 0 → Left-right (hard-list (domain M c0 c1 s N w)) old (domain-left M c0 c1 s N w old)
+  -- from the call's numbers to what then lies in the caller's list
+  pub hard : domain-answer M c0 c1 s N w (length old) .refusal ≡ 0
+      → Lists (Hard-in-numbers M c0 c1 s N w) (domain-answer M c0 c1 s N w (length old) .listed)
+      (take (domain-answer M c0 c1 s N w (length old) .listed) (domain-left M c0 c1 s N w old))
 
 -- the segment of five numbers, and its scan into a list `old`
 pub record Scan-right (M a b N w : ℕ) (old : List ℕ) : Type 0 where
@@ -145,16 +190,21 @@ pub record Scan-right (M a b N w : ℕ) (old : List ℕ) : Type 0 where
   pub listed : (n : ℕ) → (scan-answer M a b N w (length old) ≡ Listed n)
       ↔ (segment-specs.Accepted (segment M a b N w) × (length (segment-hard-list (segment M a b N w)) ≤ length old) × (n ≡ length (segment-hard-list (segment M a b N w))))
   pub left : (n : ℕ) → scan-answer M a b N w (length old) ≡ Listed n → Left-right (segment-hard-list (segment M a b N w)) old (scan-left M a b N w old)
+  pub hard : (n : ℕ) → scan-answer M a b N w (length old) ≡ Listed n → Lists (segment-specs.Hard (segment M a b N w)) n (take n (scan-left M a b N w old))
 
 -- ---- all of it
 
 pub record Promised : Type 0 where
+  pub numbers : (M c0 c1 : ℕ) (s : ℤ) (N w : ℕ) → Domain-of M c0 c1 s N w
   pub values : (M c0 c1 : ℕ) (s : ℤ) (N w : ℕ) → 0 < M → Values-right M c0 c1 s N w
   pub hard-lists : (d : Domain) → Accepted d → Lists (Hard d) (how-many (is-hard d) (d .count) 0) (hard-list d)
   pub segment-lists : (s : Segment) → segment-specs.Accepted s
       → Lists (segment-specs.Hard s) (how-many (λ x. ltb (residue s x) (s .window)) (s .count) 0) (segment-hard-list s)
-  pub coverings : (d : Domain) → Fair d → Covered d
+  pub covers : Covers
+  pub coverings : (d : Domain) → Fair d → Covering-right d
   pub parts : (d : Domain) → Accepted d → Parts-right d
   pub phases : (d : Domain) → Accepted d → Phases-right d
   pub domains : (M c0 c1 : ℕ) (s : ℤ) (N w : ℕ) (old : List ℕ) → Domain-right M c0 c1 s N w old
   pub scans : (M a b N w : ℕ) (old : List ℕ) → Scan-right M a b N w old
+  -- 01's numbers for the cases of a scan's answer: the refusal or 0, and how many it listed or 0
+  pub scan-numbers : (n : ℕ) → (scan-refusal (Refused n) ≡ n) × (scan-refusal (Listed n) ≡ 0) × (scan-count (Refused n) ≡ 0) × (scan-count (Listed n) ≡ n)

@@ -80,8 +80,8 @@ fn spread(domain: Domain) -> u64
     domain.size * triangle(domain.count)
 }
 
-// The covering segment lies above the parabola by as much as the curve may take from it. A curve that is not negative adds to the values, so
-// that the segment starts as far above, at the value of the parabola's other end; a negative one takes from them.
+// The covering segment lies above the parabola. A curve that is not negative adds to the values, so that the segment starts above them by all
+// that it may add; a negative one takes from them, so that it starts with them.
 fn covering_start(domain: Domain) -> u64
     requires { ⌜ Fair domain ⌝ }
     ensures { λ r. ⌜ r ≡ covering-start domain ⌝ }

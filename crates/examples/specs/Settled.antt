@@ -1,4 +1,4 @@
--- Document 01's settled examples marked P, as one statement with a field for each that is proved so far. Assumes nothing: these are statements.
+-- Document 01's settled examples marked P, as one statement with a field for each; of P10 the domain, without the job's text. Assumes nothing: these are statements.
 use mathlib.Core.Path.{_≡_}
 use mathlib.Core.List.{[], _∷_}
 use Prim.Native.Nat.{ℕ}

@@ -8,7 +8,7 @@ use mathlib.Core.Logic.{⊎-elim}
 use Prim.Native.Nat.{ℕ, zero, suc, _+_, _-_, _≤_, _<_}
 use native.Mathlib.Nat.{eq-or-lt-of-le, zero-add, add-zero, add-suc, suc-add}
 use native.Mathlib.Omega.{arith}
-use lib.ListN.{length, getD, set, drop, length-append, length-drop, List·getD-append}
+use lib.ListN.{length, getD, set, take, drop, length-append, length-drop, List·getD-append}
 use lib.Seq.{sets, sets-eq, getD-append-add, getD-drop}
 use Rattle.numbers.specs.Lists.{having, how-many, raised, in-front}
 use Rattle.numbers.proofs.Lists.{Ascending-from}
@@ -170,3 +170,12 @@ in-front-after xs old i h =
     let e : length xs + (i - length xs) ≡ i = omega arith in
     subst (λ (j : ℕ). getD (xs ++ drop (length xs) old) j 0 ≡ getD old j 0) e
     (getD-append-add xs (drop (length xs) old) (i - length xs) 0 ∙ getD-drop (length xs) old (i - length xs) 0)
+
+-- and taken off again
+pub taken-front : (xs old : List ℕ) → take (length xs) (in-front xs old) ≡ xs
+unfolding in-front
+taken-front xs old = first-taken xs (drop (length xs) old)
+  where
+    first-taken : (xs ys : List ℕ) → take (length xs) (xs ++ ys) ≡ xs
+    first-taken [] ys = refl
+    first-taken (x ∷ xs) ys = ap (λ (l : List ℕ). x ∷ l) (first-taken xs ys)
