@@ -1,4 +1,18 @@
-//! What both programs use: random lines, the same in every run, and the median of times.
+//! What the programs use: segments, random lines, the same in every run, and the median of times.
+
+#![allow(dead_code)]
+
+/// How often each time is taken.
+pub const REPETITIONS: usize = 61;
+
+#[derive(Clone, Copy)]
+pub struct Segment {
+    pub modulus: u64,
+    pub step: u64,
+    pub start: u64,
+    pub count: u64,
+    pub window: u64,
+}
 
 /// A modulus from 2^61 to 2^62, a step and a start.
 pub fn lines(number: usize) -> Vec<[u64; 3]> {

@@ -12,25 +12,15 @@ mod same;
 mod tuned;
 
 use c_api::{Marks, Searched};
-use common::median;
+use common::{median, Segment, REPETITIONS};
 use std::hint::black_box;
 use std::time::Instant;
 
 /// Too many for a branch predictor to learn the way of each, and not too many for the cache.
 const DOMAINS: usize = 32_768;
-const REPETITIONS: usize = 61;
 
 /// The places that the job program has.
 const PLACES: usize = 4096;
-
-#[derive(Clone, Copy)]
-struct Segment {
-    modulus: u64,
-    step: u64,
-    start: u64,
-    count: u64,
-    window: u64,
-}
 
 #[derive(Clone, Copy)]
 struct Domain {
@@ -54,9 +44,19 @@ impl Domain {
         Segment {
             modulus: self.modulus,
             step: if self.slope == 0 { 0 } else { self.modulus - self.slope },
-            start: if self.curve < 0 { self.value } else { (self.value + deviation) % self.modulus },
+            start: if self.curve < 0 { self.value } else { self.start(deviation) },
             count: self.count,
             window: self.modulus.min(self.window + deviation),
+        }
+    }
+
+    /// Most deviations are below the modulus, and then there is nothing to divide.
+    #[inline(always)]
+    fn start(&self, deviation: u64) -> u64 {
+        if deviation < self.modulus {
+            add_and_correct(self.value, deviation, self.modulus)
+        } else {
+            (self.value + deviation) % self.modulus
         }
     }
 

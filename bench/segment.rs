@@ -9,23 +9,13 @@ mod common;
 mod same;
 mod tuned;
 
-use common::median;
+use common::{median, Segment, REPETITIONS};
 use std::hint::black_box;
 use std::time::Instant;
 use tuned::{Float, Instruction};
 
 /// Too many for a branch predictor to learn the way of each, and not too many for the cache.
 const SEGMENTS: usize = 32_768;
-const REPETITIONS: usize = 61;
-
-#[derive(Clone, Copy)]
-struct Segment {
-    modulus: u64,
-    step: u64,
-    start: u64,
-    count: u64,
-    window: u64,
-}
 
 /// Lefèvre's search as 000 prints it (Algorithm 1, with its letters), by division instructions and without the further ones that
 /// 000 leaves out, which shorten long runs of subtractions. It answers clear or not and nothing else, and divides by zero where a

@@ -7,7 +7,6 @@ use Prim.Native.Nat.{ℕ, zero, suc, _+_, _-_, _%_, _≤_, _<_}
 use native.Mathlib.Nat.{sub-zero, add-zero, mod-eq-of-lt, sub-eq-zero-of-le, lt-of-not-le}
 use native.Mathlib.Omega.{arith}
 use native.Mathlib.Numerals.{add-one}
-use borrow.Author.Tests.{lt-ltb, le-ltb}
 use lib.Dec.{ltb}
 use lib.ListN.{length, set, length-set}
 use lib.Seq.{sets}
@@ -57,14 +56,6 @@ module _ {d : Domain} {bend x : ℕ} {p : Point} (a : At d bend x p) where
       }
 
   -- whether it is hard
-  pub at-hard : p .value < d .window → is-hard d x ≡ true
-  unfolding is-hard
-  at-hard h = lt-ltb (value-at d x) (d .window) (omega (arith, a .value-is))
-
-  pub at-not-hard : d .window ≤ p .value → is-hard d x ≡ false
-  unfolding is-hard
-  at-not-hard h = le-ltb (value-at d x) (d .window) (omega (arith, a .value-is))
-
   pub at-test : ltb (p .value) (d .window) ≡ is-hard d x
   unfolding is-hard
   at-test = rw (a .value-is)
@@ -168,12 +159,12 @@ module _ {d : Domain} {bend begin place end : ℕ} {old : List ℕ} where
     pub list-more : at < end → l .argument < d .count
     list-more h = lt-of-not-le (λ k. omega (arith, l .to-come, ap length (rest-none d (l .argument) k)))
 
-    pub list-hit : at < end → p .value < d .window
+    pub list-hit : at < end → ltb (p .value) (d .window) ≡ true
         → Listing d bend begin place end old (set list at x) (next-point bend (d .modulus) p) (at + 1) (x + 1)
     unfolding raised
     list-hit h k =
         let more : l .argument < d .count = list-more h in
-        let e : rest d (l .argument) ≡ l .argument ∷ rest d (suc (l .argument)) = rest-hard d (l .argument) more (at-hard (l .point) k) in
+        let e : rest d (l .argument) ≡ l .argument ∷ rest d (suc (l .argument)) = rest-hard d (l .argument) more (sym (at-test (l .point)) ∙ k) in
         record {
           argument = suc (l .argument);
           begun = omega (arith, l .begun);
@@ -184,11 +175,11 @@ module _ {d : Domain} {bend begin place end : ℕ} {old : List ℕ} where
           length-kept = length-set list at x ∙ l .length-kept;
         }
 
-    pub list-miss : at < end → d .window ≤ p .value
+    pub list-miss : at < end → ltb (p .value) (d .window) ≡ false
         → Listing d bend begin place end old list (next-point bend (d .modulus) p) at (x + 1)
     list-miss h k =
         let more : l .argument < d .count = list-more h in
-        let e : rest d (l .argument) ≡ rest d (suc (l .argument)) = rest-not-hard d (l .argument) more (at-not-hard (l .point) k) in
+        let e : rest d (l .argument) ≡ rest d (suc (l .argument)) = rest-not-hard d (l .argument) more (sym (at-test (l .point)) ∙ k) in
         record {
           argument = suc (l .argument);
           begun = omega (arith, l .begun);

@@ -2,6 +2,7 @@
 ghost use mathlib.Core.Path.{_≡_};
 ghost use mathlib.Core.Bool.{cond};
 ghost use Prim.Native.Nat.{_+_, _≤_};
+ghost use lib.Dec.{ltb};
 ghost use lib.ListN.{length};
 ghost use lib.Seq.{sets};
 ghost use Rattle.numbers.specs.Lists.{raised};
@@ -35,6 +36,13 @@ fn next(point: Point, bend: u64, modulus: u64) -> Point
     }
 }
 
+// Whether an argument with this value is hard.
+fn is_hard(value: u64, window: u64) -> bool
+    ensures { λ r. ⌜ r ≡ ltb value window ⌝ }
+{
+    value < window
+}
+
 fn one_if(hard: bool) -> u32
     ensures { λ r. ⌜ r ≡ cond hard 1 0 ⌝ }
 {
@@ -57,7 +65,7 @@ pub(crate) fn count_hard(domain: Domain) -> u32
     let mut x: u64 = 0;
     let mut hard: u32 = 0;
     while x < domain.count {
-        hard = hard + one_if(point.value < domain.window);
+        hard = hard + one_if(is_hard(point.value, domain.window));
         point = next(point, bend, domain.modulus);
         x = x + 1;
     }
@@ -81,7 +89,7 @@ pub(crate) fn list_hard(domain: Domain, begin: u32, hard: u32, list: &mut [u32],
     let mut at = place;
     let mut x = begin;
     while at < end {
-        if point.value < domain.window {
+        if is_hard(point.value, domain.window) {
             list[at] = x;
             at = at + 1;
         }

@@ -1,5 +1,5 @@
 -- `domain::scan::list_hard` meets its contract: each turn writes an argument that is hard and goes to the next. Assumes nothing.
-use mathlib.Core.Path.{ap}
+use mathlib.Core.Path.{sym, _∙_, ap}
 use mathlib.Core.Logic.{⊎-elim}
 use Prim.Native.Nat.{ℕ, _-_, _+_, _<_}
 use native.Mathlib.Omega.{arith}
@@ -22,6 +22,9 @@ room c = omega (arith, c .loop-test .taken, c .before .before .before .before .p
 bend-requires : tie.Need-bend-requires Inv-loop μ-loop
 bend-requires c κs = c .before .pre .0
 
+is-hard-requires : tie.Need-is-hard-requires Inv-loop μ-loop
+is-hard-requires c κs = tt
+
 add-end : tie.Need-add-end Inv-loop μ-loop
 add-end c = search needs
 
@@ -29,37 +32,39 @@ loop-holds : tie.Need-loop-holds Inv-loop μ-loop
 loop-holds c = let s = c .before .before in list-first (s .pre .0) (c .bend .ensures) (ap (λ (n : ℕ). s .args .place + n) (s .pre .1 .0))
 
 mul-list : tie.Need-mul-list Inv-loop μ-loop
-mul-list c = let h = room (c .before .before .before) in omega arith
+mul-list c = let h = room (c .before .before) in omega arith
 
 slice-write-list : tie.Need-slice-write-list Inv-loop μ-loop
 slice-write-list c =
-    let l = c .before .before .before .before .loop in
-    omega (arith, l .inv .length-kept, room (c .before .before .before))
+    let l = c .before .before .before .loop in
+    omega (arith, l .inv .length-kept, room (c .before .before))
 
 add-at : tie.Need-add-at Inv-loop μ-loop
-add-at c = let h = room (c .before .before .before) in omega arith
+add-at c = let h = room (c .before .before) in omega arith
 
 next-requires : tie.Need-next-requires Inv-loop μ-loop
-next-requires c κs = at-below (c .before .before .before .before .loop .inv .point)
+next-requires c κs = at-below (c .before .before .before .loop .inv .point)
 
 add-x : tie.Need-add-x Inv-loop μ-loop
 add-x c =
-    let l = c .before .before .before .before .before in
+    let l = c .before .before .before .before in
     let s = l .before .before .before in
     record { fits = omega (arith, l .loop .inv .begun, l .loop .inv .within, l .loop .inv .point .fair .count-high, s .pre .1 .1 .0) }
 
 loop-less : tie.Need-loop-less Inv-loop μ-loop
 loop-less c =
-    let t = c .before .before .before .before in
+    let t = c .before .before .before in
     omega (arith, t .before .loop .inv .begun, list-more (t .before .loop .inv) (t .loop-test .taken))
 
 loop-again : tie.Need-loop-again Inv-loop μ-loop
 loop-again c =
-    let t = c .before .before .before .before in
+    let k = c .before .before in
+    let t = k .before in
     let l = t .before .loop .inv in
+    let e = sym (k .is-hard .ensures) in
     ⊎-elim
-    (λ w. rw (w .1, w .2, c .next .ensures) (list-hit l (t .loop-test .taken) (w .0 .taken)))
-    (λ w. rw (w .1, w .2, c .next .ensures) (list-miss l (t .loop-test .taken) (w .0 .left)))
+    (λ w. rw (w .1, w .2, c .next .ensures) (list-hit l (t .loop-test .taken) (e ∙ w .0 .taken)))
+    (λ w. rw (w .1, w .2, c .next .ensures) (list-miss l (t .loop-test .taken) (e ∙ w .0 .left)))
     (c .before .if1 .came)
 
 same-length : tie.Need-same-length Inv-loop μ-loop
@@ -77,6 +82,7 @@ list-hard-spec =
     bend-requires
     add-end
     loop-holds
+    is-hard-requires
     mul-list
     slice-write-list
     add-at
