@@ -518,6 +518,21 @@ fn settled_examples() -> Result<Tally, String> {
     all(THROUGH, examples.map(|example| example.1))
 }
 
+/// Domains whose verdict or marks would be others with another D: cleared or not, the marks and the list, by hand.
+fn verdicts_by_spread() -> Result<Tally, String> {
+    let examples: [(Domain, u64, [u8; 8], &[u32]); 5] = [
+        (domain(45, 17, 0, 1, 8, 1), 0, [1; 8], &[]),
+        (domain(45, 1, 0, 1, 8, 1), 1, [0; 8], &[]),
+        (domain(45, 0, 0, 1, 16, 1), 0, [2, 1, 1, 1, 1, 2, 1, 1], &[0, 1, 10]),
+        (domain(45, 0, 0, -1, 16, 1), 0, [2, 1, 1, 1, 1, 2, 1, 1], &[0, 1, 10]),
+        (domain(45, 4, 16, -2, 24, 2), 0, [2, 2, 1, 1, 2, 2, 1, 2], &[3, 14, 23]),
+    ];
+    for (domain, cleared, marks, list) in examples {
+        check(&domain, list, &Shown { marks: &marks, numbers: &[cleared, list.len() as u64] })?;
+    }
+    all(THROUGH, examples.map(|example| example.0))
+}
+
 /// Document 01's examples without a mark that concern domains.
 fn settled_refusals() -> Result<Tally, String> {
     let refusals = [
@@ -716,7 +731,7 @@ fn longest_ranges() -> Result<String, String> {
 
 fn main() {
     let mut run = Run::start();
-    let domain_tests: [(&str, fn() -> Result<Tally, String>); 16] = [
+    let domain_tests: [(&str, fn() -> Result<Tally, String>); 17] = [
         ("every modulus up to 8", every_small_domain),
         ("random small moduli", random_small_moduli),
         ("random moduli of every size", random_moduli_of_every_size),
@@ -732,6 +747,7 @@ fn main() {
         ("random fields of every size", random_fields_of_every_size),
         ("every set of refusals", every_set_of_refusals),
         ("settled examples", settled_examples),
+        ("verdicts that hang on D", verdicts_by_spread),
         ("settled refusals", settled_refusals),
     ];
     let scan_tests: [(&str, fn() -> Result<Tally, String>); 5] = [

@@ -143,9 +143,9 @@ pub extern "C" fn geyserdish_search_domain(
     ensures { λ r. ⌜ now (searched .exit) ≡ domain-memory (domain-answer modulus value slope curve count window (length (now (list .entry)))) (now (searched .entry)) ⌝ }
 {
     let answer = domain::search_domain(modulus, value, slope, curve, count, window, list);
-    let refusal = answer.refusal;
-    if refusal != 0 {
-        return refusal;
+    let number = answer.refusal;
+    if number != 0 {
+        return number;
     }
     let all = answer.marks;
     *marks = all;
