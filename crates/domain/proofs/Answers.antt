@@ -1,8 +1,7 @@
 -- What the calls answer and leave, from what their parts have found. Assumes nothing.
 use mathlib.Core.Path.{_≡_, refl, sym, _∙_, ap}
-use mathlib.Core.Bool.{Bool, true, false, cond}
-use mathlib.Core.List.{List, [], _∷_}
-use Prim.Native.Nat.{ℕ, zero, suc, _+_, _≤_, _<_}
+use mathlib.Core.List.{List, []}
+use Prim.Native.Nat.{ℕ, zero, suc, _≤_, _<_}
 use native.Mathlib.Omega.{arith}
 use borrow.Author.Tests.{lt-ltb, le-ltb}
 use lib.ListN.{length, replicate}
@@ -16,7 +15,6 @@ use Rattle.domain.specs.Domain.{Accepted, hard-list, segment-hard-list, 
 use Rattle.domain.specs.Answer.{refusal, overflow, or-else, left-in, refused, reported, domain-number, domain-answer-with, scan-number, scan-answer-with}
 use Rattle.domain.specs.Phases.{looks-of}
 use Rattle.domain.specs.declared.part.Domain.{Domain}
-use Rattle.domain.specs.declared.DomainAnswer.{DomainAnswer}
 use Rattle.domain.specs.declared.phases.Looks.{Looks}
 use Rattle.domain.specs.declared.ScanAnswer.the-variants as scan-variants
 use Rattle.domain.proofs.Clearing.{first-clears, none-listed}

@@ -2,8 +2,8 @@
 -- than its window. That residue is congruent to the value and what the curve may still take from it, which is at most D. Assumes nothing.
 use mathlib.Core.Path.{_≡_, refl, ap, subst}
 use mathlib.Core.Bool.{Bool, true, false, cond}
-use mathlib.Core.List.{List, []}
-use Prim.Native.Nat.{ℕ, _+_, _-_, _*_, _%_, _≤_, _<_, min}
+use mathlib.Core.List.{[]}
+use Prim.Native.Nat.{ℕ, _+_, _-_, _*_, _%_, _≤_, _<_}
 use mathlib.Core.Logic.{by-cases}
 use native.Mathlib.Nat.{mod-lt, mod-le, add-zero, mul-le-mul-left, le-of-lt}
 use native.Mathlib.Decide.{decLe}
@@ -12,9 +12,8 @@ use borrow.Author.Tests.{le-ltb}
 use Rattle.numbers.proofs.Congruences.{Congruent, equals, flip, chain, plus, times, cancel, none, remainder, is-remainder}
 use Rattle.numbers.proofs.Selections.{having-empty}
 use Rattle.segment.specs.Segment.{Segment, residue, Accepted}
-use Rattle.segment.specs.Answer.{regular-answer, fine-answer}
 use Rattle.segment.specs.Promise.{Regular-answer-right, Fine-answer-right}
-use Rattle.segment.specs.declared.Verdict.the-variants.{Clear, Possible}
+use Rattle.segment.specs.declared.Verdict.the-variants.{Clear}
 use Rattle.segment.specs.declared.RegularAnswer.{RegularAnswer}
 use Rattle.segment.specs.declared.RegularAnswer.the-variants as regular-variants
 use Rattle.segment.specs.declared.FineAnswer.{FineAnswer}

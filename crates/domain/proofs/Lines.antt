@@ -1,8 +1,7 @@
 -- A segment is a domain without a curve: its residues are that domain's values, so that a scan of the one lists the hard arguments of the other.
 -- Assumes nothing.
-use mathlib.Core.Path.{_≡_, refl, sym, _∙_, ap}
+use mathlib.Core.Path.{_≡_, refl, ap}
 use mathlib.Core.Bool.{false}
-use mathlib.Core.List.{List}
 use Prim.Native.Nat.{ℕ, _+_, _-_, _*_, _%_, _<_}
 use native.Mathlib.Nat.{mod-lt}
 use native.Mathlib.Omega.{arith}
@@ -10,7 +9,7 @@ use lib.Dec.{ltb}
 use Rattle.numbers.proofs.Congruences.{Congruent, equals, flip, chain, plus, times, cancel, none, remainder, same}
 use Rattle.numbers.proofs.Selections.{having-same}
 use Rattle.segment.specs.Segment.{Segment, residue, Accepted}
-use Rattle.domain.specs.Domain.{Fair, triangle, shifted, value-at, is-hard, hard-list, segment-hard-list}
+use Rattle.domain.specs.Domain.{Fair, triangle, value-at, is-hard, hard-list, segment-hard-list}
 use Rattle.domain.specs.declared.part.Domain.{Domain}
 use Rattle.domain.proofs.Values.{value-below, shifted-by}
 use Rattle.domain.proofs.Clearing.{residue-by, residue-below}

@@ -1,13 +1,12 @@
 -- The eight parts cover the arguments of a domain once each and go on as it does, so that their hard arguments are the domain's. Assumes nothing.
 use mathlib.Core.Path.{_≡_, refl, sym, _∙_, ap, ap₂}
-use mathlib.Core.Bool.{Bool, true, false}
 use mathlib.Core.List.{List, [], _∷_, _++_}
-use Prim.Native.Nat.{ℕ, zero, suc, _+_, _-_, _*_, _/_, _%_, _≤_, _<_}
+use Prim.Native.Nat.{ℕ, zero, suc, _+_, _-_, _≤_, _<_}
 use native.Mathlib.Nat.{add-zero, zero-add}
 use native.Mathlib.Omega.{arith}
 use native.Mathlib.Numerals.{add-one}
 use lib.Dec.{ltb}
-use lib.ListN.{length, getD, set, replicate, length-append, length-set}
+use lib.ListN.{length, getD, set, replicate, length-append}
 use lib.Seq.{sets}
 use Rattle.numbers.specs.Lists.{having, raised, in-front}
 use Rattle.numbers.proofs.Selections.{having-few, having-joined, having-raised, raised-length, written-in-front, written-after}
@@ -16,7 +15,6 @@ use Rattle.domain.specs.Domain.{Accepted, Fair, value-at, is-hard, hard-
 use Rattle.domain.specs.Phases.{look-of, counts-from, looks-of}
 use Rattle.domain.specs.declared.part.Domain.{Domain}
 use Rattle.domain.specs.declared.phases.Look.{Look}
-use Rattle.domain.specs.declared.phases.Looks.{Looks}
 use Rattle.domain.proofs.Values.{value-below, slope-below, value-continues, part-continues}
 use Rattle.domain.proofs.Clearing.{part-clears, none-listed}
 

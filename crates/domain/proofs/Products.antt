@@ -1,10 +1,10 @@
 -- Numbers modulo M as the code makes them: opposites, shifts, and products by doubling. Assumes nothing.
-use mathlib.Core.Path.{_≡_, refl, sym, _∙_, ap}
+use mathlib.Core.Path.{_≡_, refl, sym, ap}
 use mathlib.Core.Bool.{Bool, true, false}
 use Prim.Native.Nat.{ℕ, zero, suc, _+_, _-_, _*_, _/_, _%_, _≤_, _<_}
-use native.Mathlib.Nat.{mod-lt, mod-self, mod-eq-of-lt, sub-zero, div-add-mod', mul-zero, add-zero, zero-add}
+use native.Mathlib.Nat.{mod-lt, mod-self, sub-zero, div-add-mod', mul-zero, add-zero, zero-add}
 use native.Mathlib.Omega.{arith}
-use Rattle.numbers.proofs.Congruences.{Congruent, equals, flip, chain, plus, times, remainder, same-remainder, is-remainder}
+use Rattle.numbers.proofs.Congruences.{Congruent, equals, chain, plus, times, remainder, same-remainder, is-remainder}
 use Rattle.domain.specs.Domain.{shifted}
 
 -- 0 is its own opposite

@@ -7,7 +7,7 @@ use Prim.Native.Nat.{ℕ, zero, suc, _+_, _-_, _*_, _%_, _≤_, _<_}
 use native.Mathlib.Nat.{add-zero}
 use native.Mathlib.Decide.{decLt}
 use native.Mathlib.Omega.{arith}
-use lib.IntN.{ℤ, pos, negsuc, natAbs}
+use lib.IntN.{ℤ, pos, negsuc}
 use lib.ListN.{length, take}
 use Rattle.numbers.specs.Lists.{in-front}
 use Rattle.numbers.proofs.Congruences.{Congruent, equals, flip, chain, cancel, same, same-remainder, by-remainders, doubled, halved}
@@ -15,9 +15,9 @@ use Rattle.numbers.proofs.Selections.{in-front-length, in-front-at, in-front-af
 use Rattle.segment.specs.Segment.{Segment, segment}
 use Rattle.segment.specs.Segment as segment-specs
 use Rattle.segment.specs.Promise as segment-promise
-use Rattle.segment.specs.declared.Verdict.the-variants.{Clear, Possible}
+use Rattle.segment.specs.declared.Verdict.the-variants.{Clear}
 use Rattle.segment.proofs.Refusals as segment-refusals
-use Rattle.domain.specs.Domain.{Accepted, domain, is-negative, triangle, shifted, value-at, slope-at, hard-list, segment-hard-list, first-verdict, marks-after}
+use Rattle.domain.specs.Domain.{Accepted, domain, is-negative, triangle, shifted, value-at, slope-at, hard-list, segment-hard-list, first-verdict}
 use Rattle.domain.specs.Answer.{refusal, overflow, or-else, left-in, refused, reported, domain-number, domain-answer-with, domain-answer, domain-left, scan-number, scan-answer-with, scan-answer, scan-left, scan-refusal, scan-count}
 use Rattle.domain.specs.Promise.{Domain-of, Hard-in-numbers, Lists, Values-right, Hard, Refused-for, Scan-refused-for, Left-right, Marks-right, Domain-right, Scan-right, Promised}
 use Rattle.domain.specs.Promise.Refused-for.{modulus-outside, slope-outside, value-outside, count-outside, window-outside, curve-outside, too-many}

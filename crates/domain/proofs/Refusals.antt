@@ -1,12 +1,11 @@
 -- The number that refuses a domain, case by case: the only place that opens the definition's tests. Assumes nothing.
-use mathlib.Core.Path.{_≡_, refl, sym, _∙_, ap}
-use mathlib.Core.Bool.{Bool, true, false, cond}
+use mathlib.Core.Path.{_≡_, _∙_}
 use mathlib.Core.Logic.{_⊎_, inl, inr, ⊎-elim, by-cases}
 use Prim.Native.Nat.{ℕ, suc, _%_, _^_, _≤_, _<_}
 use native.Mathlib.Decide.{decLt, decLe, ℕ-discrete}
 use native.Mathlib.Omega.{arith}
 use borrow.Author.Tests.{le-leb, lt-leb, le-ltb, lt-ltb, eq-eqb, ne-eqb}
-use Rattle.domain.specs.Domain.{Accepted, Fair}
+use Rattle.domain.specs.Domain.{Accepted}
 use Rattle.domain.specs.Answer.{curve-refusal, refusal}
 use Rattle.domain.specs.Promise.{Refused-for}
 use Rattle.domain.specs.Promise.Refused-for.{modulus-outside, slope-outside, value-outside, count-outside, window-outside, curve-outside, too-many}

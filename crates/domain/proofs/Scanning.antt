@@ -1,9 +1,9 @@
 -- Scans go from a value of the domain to the next: what they have counted or listed, and what is still to come, make up all hard arguments.
 -- Assumes nothing.
-use mathlib.Core.Path.{_≡_, refl, sym, _∙_, ap, subst}
+use mathlib.Core.Path.{_≡_, refl, sym, _∙_, ap}
 use mathlib.Core.Bool.{Bool, true, false, cond}
 use mathlib.Core.List.{List, [], _∷_}
-use Prim.Native.Nat.{ℕ, zero, suc, _+_, _-_, _%_, _≤_, _<_}
+use Prim.Native.Nat.{ℕ, suc, _+_, _-_, _%_, _≤_, _<_}
 use native.Mathlib.Nat.{sub-zero, add-zero, mod-eq-of-lt, sub-eq-zero-of-le, lt-of-not-le}
 use native.Mathlib.Omega.{arith}
 use native.Mathlib.Numerals.{add-one}

@@ -6,7 +6,7 @@ use Prim.Native.Nat.{ℕ, zero, suc, _+_, _-_, _*_, _/_, _%_, _≤_, _<_}
 use mathlib.Core.Logic.{⊎-elim}
 use native.Mathlib.Nat.{mod-lt, div-add-mod', mul-add, mul-zero, eq-or-lt-of-le}
 use native.Mathlib.Omega.{arith}
-use Rattle.numbers.proofs.Congruences.{Congruent, equals, flip, chain, plus, cancel, remainder, same, is-remainder}
+use Rattle.numbers.proofs.Congruences.{Congruent, equals, flip, chain, plus, cancel, remainder, same}
 use Rattle.domain.specs.Domain.{triangle, shifted, value-at, slope-at, bend, part-start, part}
 use Rattle.domain.specs.declared.part.Domain.{Domain}
 

@@ -1,7 +1,7 @@
 -- Parts, verdicts and marks as promised. Assumes nothing.
 use mathlib.Core.Path.{_≡_, refl, sym, _∙_, ap}
 use mathlib.Core.Logic.{_↔_}
-use Prim.Native.Nat.{ℕ, zero, suc, _+_, _-_, _*_, _/_, _%_, _≤_, _<_}
+use Prim.Native.Nat.{ℕ, zero, suc, _+_, _-_, _*_, _/_, _≤_, _<_}
 use native.Mathlib.Nat.{mod-lt, div-add-mod', mul-le-mul-right, le-antisymm, lt-of-not-le, add-zero, zero-add}
 use native.Mathlib.Omega.{arith}
 use lib.ListN.{length, getD, getD-replicate}
@@ -18,7 +18,7 @@ use Rattle.segment.specs.declared.Verdict.the-variants.{Clear, Possible}
 use Rattle.segment.proofs.Refusals as segment-refusals
 use Rattle.segment.proofs.Showing.{clear-iff}
 use Rattle.domain.specs.Domain.{Accepted, Fair, triangle, value-at, spread, covering-window, covering, part-start, part-count, part, regular-verdict, fine-verdict, first-verdict, part-verdict, mark-of, marks-from, marks-after}
-use Rattle.domain.specs.Promise.{Hard, Covering-right, Parts-right, Phases-right, Marks-right}
+use Rattle.domain.specs.Promise.{Covering-right, Parts-right, Phases-right, Marks-right}
 use Rattle.domain.specs.declared.part.Domain.{Domain}
 use Rattle.domain.proofs.Values.{square, triangle-double, slope-continues, part-continues}
 use Rattle.domain.proofs.Clearing.{covering-accepted, residue-rising, residue-falling, first-clears, part-clears}

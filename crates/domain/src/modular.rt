@@ -1,6 +1,5 @@
 // Numbers modulo M, each below M: sums, opposites, remainders and products. No product is wider than a word.
 ghost use mathlib.Core.Path.{_≡_};
-ghost use mathlib.Core.Bool.{cond};
 ghost use Prim.Native.Nat.{_+_, _-_, _*_, _%_, _^_, _≤_, _<_};
 ghost use Rattle.domain.specs.Domain.{shifted};
 

@@ -1,7 +1,7 @@
 // A domain, the segment that covers it, and its parts.
 ghost use mathlib.Core.Path.{_≡_};
 ghost use Prim.Native.Nat.{_≤_, _<_};
-ghost use Rattle.domain.specs.Domain.{Fair, triangle, value-at, slope-at, bend, spread, covering-step, covering-start, covering-window, first-verdict, part-verdict, part-start, part};
+ghost use Rattle.domain.specs.Domain.{Fair, triangle, value-at, slope-at, bend, spread, covering-start, covering-window, first-verdict, part-verdict, part-start, part};
 use crate::modular::add;
 use crate::modular::negate;
 use crate::modular::reduce;

@@ -1,8 +1,8 @@
 -- Numbers that differ by multiples of a modulus: they are added, scaled and taken off each other without opening a remainder, and of two such
 -- numbers one below the modulus is the smaller one. Assumes nothing.
-use mathlib.Core.Path.{_≡_, refl, sym, _∙_, ap}
+use mathlib.Core.Path.{_≡_, sym, _∙_, ap}
 use Prim.Native.Nat.{ℕ, _+_, _*_, _-_, _/_, _%_, _≤_, _<_}
-use native.Mathlib.Nat.{mod-lt, mod-le, mod-eq-of-lt, add-mul-mod-self-right, div-add-mod'}
+use native.Mathlib.Nat.{mod-le, mod-eq-of-lt, add-mul-mod-self-right, div-add-mod'}
 use native.Mathlib.Omega.{arith}
 
 -- a and b are equal up to multiples of M

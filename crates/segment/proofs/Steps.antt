@@ -10,7 +10,6 @@ use native.Mathlib.Omega.{arith}
 use borrow.Author.Tests.{le-leb, lt-leb}
 use Rattle.numbers.proofs.Remainders.{quotient-positive}
 use Rattle.numbers.proofs.Fibonacci.{fib-one, fib-next, fib-mono}
-use Rattle.expansion.specs.Configurations.{configuration}
 use Rattle.expansion.proofs.Regular.{relabelled}
 use Rattle.segment.specs.Segment.{Segment, Accepted}
 use Rattle.segment.specs.Search.{Search, reached}

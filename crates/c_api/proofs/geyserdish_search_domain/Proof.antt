@@ -1,5 +1,5 @@
 -- `c_api::geyserdish_search_domain` meets its contract: it hands over what `search_domain` answers. Assumes nothing.
-use mathlib.Core.Path.{_≡_, refl, sym, _∙_}
+use mathlib.Core.Path.{_≡_, refl, sym}
 use lib.ListN.{length}
 use mir.Facts.{toZ-ofZ}
 use borrow.Author.Needs.{needs}

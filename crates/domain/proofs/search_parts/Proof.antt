@@ -1,7 +1,6 @@
 -- `domain::search_parts` meets its contract. Assumes nothing.
-use mathlib.Core.Path.{_≡_, _∙_, ap}
+use mathlib.Core.Path.{_≡_, ap}
 use native.Mathlib.Omega.{arith}
-use Prim.Native.Nat.{ℕ}
 use lib.ListN.{length}
 use Rattle.domain.specs.Domain.{hard-list}
 use Rattle.domain.specs.Phases.{looks-of}

@@ -1,11 +1,9 @@
 -- `domain::size_of` meets its contract. Assumes nothing.
-use Prim.Native.Nat.{_≤_}
 use native.Mathlib.Omega.{arith}
 use lib.IntN.{pos, natAbs}
 use mir.Facts.{toZ-ofZ}
 use mir.Syntax.{w64}
 use mir.Val.{SFits}
-use mathlib.Core.Path.{ap}
 use Rattle.domain.proofs.Curves.{negated, kept}
 use borrow.Author.Needs.{needs}
 use Rattle.domain.proofs.size_of.Statement.{statement}

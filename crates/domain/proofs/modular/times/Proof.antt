@@ -1,7 +1,6 @@
 -- `domain::modular::times` meets its contract: each turn takes a binary digit. Assumes nothing.
 use native.Mathlib.Nat.{mod-lt, div-add-mod'}
 use native.Mathlib.Omega.{arith}
-use borrow.Author.Needs.{needs}
 use Rattle.domain.proofs.Products.{Multiplying, first-digit, digit-below, next-digit, no-digit}
 use Rattle.domain.proofs.modular.times.Statement.{statement}
 use Rattle.domain.proofs.modular.times.Tie as tie

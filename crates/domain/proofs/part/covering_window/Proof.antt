@@ -1,6 +1,5 @@
 -- `domain::part::covering_window` meets its contract. Assumes nothing.
 use native.Mathlib.Omega.{arith}
-use mathlib.Core.Path.{sym}
 use Rattle.domain.proofs.Bounds.{spread-fits}
 use Rattle.domain.proofs.Coverings.{window-modulus, window-sum}
 use borrow.Author.Needs.{needs}

@@ -1,6 +1,5 @@
 -- `domain::part::spread` meets its contract. Assumes nothing.
 use mathlib.Core.Path.{refl}
-use Prim.Native.Nat.{_≤_}
 use native.Mathlib.Omega.{arith}
 use Rattle.domain.specs.Domain.{spread}
 use Rattle.domain.proofs.Bounds.{arc-fits}
