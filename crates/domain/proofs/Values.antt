@@ -63,14 +63,6 @@ shifted-remainder M v f y some =
     shifted-is M v some f y (shifted-below M (v % M) some f y)
     (chain (shifted-by M (v % M) some f y) (plus (remainder v M) (equals refl)))
 
--- by a number or by its remainder
-pub shifted-reduced : (M v : ℕ) (f : Bool) (y : ℕ) → 0 < M → shifted M v f (y % M) ≡ shifted M v f y
-shifted-reduced M v f y some = shifted-is M v some f y (shifted-below M v some f (y % M)) (by f)
-  where
-    by : (f : Bool) → Congruent M (shifted M v f (y % M) + loss f y) (v + gain f y)
-    by false = chain (shifted-by M v some false (y % M)) (plus (equals refl) (remainder y M))
-    by true = chain (plus (equals refl) (flip (remainder y M))) (shifted-by M v some true (y % M))
-
 -- by nothing
 pub shifted-none : (M v : ℕ) (f : Bool) → v < M → shifted M v f 0 ≡ v
 shifted-none M v f h = sym (shifted-is M v (omega arith) f 0 h (by f))
