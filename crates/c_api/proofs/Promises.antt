@@ -70,7 +70,7 @@ unfolding scan-memory
 scan-kept old e = rw e
 
 module _ (M a b N w : ℕ) (list : List ℕ) where
-  r : Scan-right M a b N w list
+  r : Scan-right M a b N w list (scan-answer M a b N w (length list)) (scan-left M a b N w list)
   r = domains.promised .scans M a b N w list
 
   scan-accepted : (scan-refusal (scan-answer M a b N w (length list)) ≡ 0) ↔ (Accepted (segment M a b N w) × (length (segment-hard-list (segment M a b N w)) ≤ length list))

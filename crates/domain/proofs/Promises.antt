@@ -213,7 +213,8 @@ answer-reported d e = rw e
 through : {m n k : ℕ} {P : Type 0} → m ≡ n → (n ≡ k) ↔ P → (m ≡ k) ↔ P
 through e i = (λ f. i .0 (sym e ∙ f), λ p. e ∙ i .1 p)
 
-domains : (M c0 c1 : ℕ) (s : ℤ) (N w : ℕ) (old : List ℕ) → Domain-right M c0 c1 s N w old
+domains : (M c0 c1 : ℕ) (s : ℤ) (N w : ℕ) (old : List ℕ)
+    → Domain-right M c0 c1 s N w old (domain-answer M c0 c1 s N w (length old)) (domain-left M c0 c1 s N w old)
 unfolding domain-answer domain-left
 domains M c0 c1 s N w old =
     record {
@@ -350,7 +351,7 @@ module _ (s : Segment) where
   unfolding scan-answer-with
   lists-answer k n e f = rw (e, f)
 
-scans : (M a b N w : ℕ) (old : List ℕ) → Scan-right M a b N w old
+scans : (M a b N w : ℕ) (old : List ℕ) → Scan-right M a b N w old (scan-answer M a b N w (length old)) (scan-left M a b N w old)
 unfolding scan-answer scan-left
 scans M a b N w old =
     record {

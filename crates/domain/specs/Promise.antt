@@ -20,6 +20,8 @@ use Rattle.segment.specs.declared.Verdict.the-variants.{Clear, Possible}
 use Rattle.domain.specs.Domain.{domain, triangle, value-at, slope-at, is-hard, hard-list, segment-hard-list, spread, covering, part-start, part-count, part, first-verdict, part-verdict, Fair, Accepted}
 use Rattle.domain.specs.Answer.{domain-answer, domain-left, scan-answer, scan-left, scan-refusal, scan-count}
 use Rattle.domain.specs.declared.part.Domain.{Domain}
+use Rattle.domain.specs.declared.DomainAnswer.{DomainAnswer}
+use Rattle.domain.specs.declared.ScanAnswer.{ScanAnswer}
 use Rattle.domain.specs.declared.ScanAnswer.the-variants.{Refused, Listed}
 
 -- ---- the numbers of a call
@@ -160,37 +162,30 @@ pub record Left-right (xs old new : List ℕ) : Type 0 where
   pub front : (i : ℕ) → i < length xs → getD new i 0 ≡ getD xs i 0
   pub after : (i : ℕ) → length xs ≤ i → getD new i 0 ≡ getD old i 0
 
--- the domain of six numbers, and its answer with a list `old`
-pub record Domain-right (M c0 c1 : ℕ) (s : ℤ) (N w : ℕ) (old : List ℕ) : Type 0 where
+-- what a domain of six numbers is answered with a list `old`, and what is then in the list, `new`
+pub record Domain-right (M c0 c1 : ℕ) (s : ℤ) (N w : ℕ) (old : List ℕ) (answer : DomainAnswer) (new : List ℕ) : Type 0 where
   -- a number refuses exactly where its condition holds and no lower one's, and leaves the list as it was; a refusal has no other content
-  pub refused : (n : ℕ) → (domain-answer M c0 c1 s N w (length old) .refusal ≡ suc n) ↔ Refused-for (domain M c0 c1 s N w) (length old) (suc n)
-  pub unchanged : (n : ℕ) → domain-answer M c0 c1 s N w (length old) .refusal ≡ suc n → domain-left M c0 c1 s N w old ≡ old
-  pub nothing-else : (n : ℕ) → domain-answer M c0 c1 s N w (length old) .refusal ≡ suc n
-      → domain-answer M c0 c1 s N w (length old) ≡ record { refusal = suc n; first = Possible; marks = replicate 8 0; listed = 0 }
+  pub refused : (n : ℕ) → (answer .refusal ≡ suc n) ↔ Refused-for (domain M c0 c1 s N w) (length old) (suc n)
+  pub unchanged : (n : ℕ) → answer .refusal ≡ suc n → new ≡ old
+  pub nothing-else : (n : ℕ) → answer .refusal ≡ suc n → answer ≡ record { refusal = suc n; first = Possible; marks = replicate 8 0; listed = 0 }
   -- otherwise it is accepted, and there are places enough
-  pub accepted : (domain-answer M c0 c1 s N w (length old) .refusal ≡ 0)
-      ↔ (Accepted (domain M c0 c1 s N w) × (length (hard-list (domain M c0 c1 s N w)) ≤ length old))
-  pub first : domain-answer M c0 c1 s N w (length old) .refusal ≡ 0 → domain-answer M c0 c1 s N w (length old) .first ≡ first-verdict (domain M c0 c1 s N w)
-  pub marks : domain-answer M c0 c1 s N w (length old) .refusal ≡ 0
-      → Marks-right (domain M c0 c1 s N w) (domain-answer M c0 c1 s N w (length old) .first) (domain-answer M c0 c1 s N w (length old) .marks)
-  pub listed : domain-answer M c0 c1 s N w (length old) .refusal ≡ 0
-      → domain-answer M c0 c1 s N w (length old) .listed ≡ length (hard-list (domain M c0 c1 s N w))
-  pub cleared : domain-answer M c0 c1 s N w (length old) .refusal ≡ 0 → domain-answer M c0 c1 s N w (length old) .first ≡ Clear
-      → (domain-answer M c0 c1 s N w (length old) .listed ≡ 0) × (domain-left M c0 c1 s N w old ≡ old) × ((x : ℕ) → Hard (domain M c0 c1 s N w) x → ⊥)
-  pub left : domain-answer M c0 c1 s N w (length old) .refusal ≡ 0 → Left-right (hard-list (domain M c0 c1 s N w)) old (domain-left M c0 c1 s N w old)
+  pub accepted : (answer .refusal ≡ 0) ↔ (Accepted (domain M c0 c1 s N w) × (length (hard-list (domain M c0 c1 s N w)) ≤ length old))
+  pub first : answer .refusal ≡ 0 → answer .first ≡ first-verdict (domain M c0 c1 s N w)
+  pub marks : answer .refusal ≡ 0 → Marks-right (domain M c0 c1 s N w) (answer .first) (answer .marks)
+  pub listed : answer .refusal ≡ 0 → answer .listed ≡ length (hard-list (domain M c0 c1 s N w))
+  pub cleared : answer .refusal ≡ 0 → answer .first ≡ Clear → (answer .listed ≡ 0) × (new ≡ old) × ((x : ℕ) → Hard (domain M c0 c1 s N w) x → ⊥)
+  pub left : answer .refusal ≡ 0 → Left-right (hard-list (domain M c0 c1 s N w)) old new
   -- from the call's numbers to what then lies in the caller's list
-  pub hard : domain-answer M c0 c1 s N w (length old) .refusal ≡ 0
-      → Lists (Hard-in-numbers M c0 c1 s N w) (domain-answer M c0 c1 s N w (length old) .listed)
-      (take (domain-answer M c0 c1 s N w (length old) .listed) (domain-left M c0 c1 s N w old))
+  pub hard : answer .refusal ≡ 0 → Lists (Hard-in-numbers M c0 c1 s N w) (answer .listed) (take (answer .listed) new)
 
--- the segment of five numbers, and its scan into a list `old`
-pub record Scan-right (M a b N w : ℕ) (old : List ℕ) : Type 0 where
-  pub refused : (n : ℕ) → (scan-answer M a b N w (length old) ≡ Refused n) ↔ Scan-refused-for (segment M a b N w) (length old) n
-  pub unchanged : (n : ℕ) → scan-answer M a b N w (length old) ≡ Refused n → scan-left M a b N w old ≡ old
-  pub listed : (n : ℕ) → (scan-answer M a b N w (length old) ≡ Listed n)
+-- what the scan of a segment of five numbers is answered with a list `old`, and what is then in the list, `new`
+pub record Scan-right (M a b N w : ℕ) (old : List ℕ) (answer : ScanAnswer) (new : List ℕ) : Type 0 where
+  pub refused : (n : ℕ) → (answer ≡ Refused n) ↔ Scan-refused-for (segment M a b N w) (length old) n
+  pub unchanged : (n : ℕ) → answer ≡ Refused n → new ≡ old
+  pub listed : (n : ℕ) → (answer ≡ Listed n)
       ↔ (segment-specs.Accepted (segment M a b N w) × (length (segment-hard-list (segment M a b N w)) ≤ length old) × (n ≡ length (segment-hard-list (segment M a b N w))))
-  pub left : (n : ℕ) → scan-answer M a b N w (length old) ≡ Listed n → Left-right (segment-hard-list (segment M a b N w)) old (scan-left M a b N w old)
-  pub hard : (n : ℕ) → scan-answer M a b N w (length old) ≡ Listed n → Lists (segment-specs.Hard (segment M a b N w)) n (take n (scan-left M a b N w old))
+  pub left : (n : ℕ) → answer ≡ Listed n → Left-right (segment-hard-list (segment M a b N w)) old new
+  pub hard : (n : ℕ) → answer ≡ Listed n → Lists (segment-specs.Hard (segment M a b N w)) n (take n new)
 
 -- ---- all of it
 
@@ -204,7 +199,8 @@ pub record Promised : Type 0 where
   pub coverings : (d : Domain) → Fair d → Covering-right d
   pub parts : (d : Domain) → Accepted d → Parts-right d
   pub phases : (d : Domain) → Accepted d → Phases-right d
-  pub domains : (M c0 c1 : ℕ) (s : ℤ) (N w : ℕ) (old : List ℕ) → Domain-right M c0 c1 s N w old
-  pub scans : (M a b N w : ℕ) (old : List ℕ) → Scan-right M a b N w old
+  pub domains : (M c0 c1 : ℕ) (s : ℤ) (N w : ℕ) (old : List ℕ)
+      → Domain-right M c0 c1 s N w old (domain-answer M c0 c1 s N w (length old)) (domain-left M c0 c1 s N w old)
+  pub scans : (M a b N w : ℕ) (old : List ℕ) → Scan-right M a b N w old (scan-answer M a b N w (length old)) (scan-left M a b N w old)
   -- 01's numbers for the cases of a scan's answer: the refusal or 0, and how many it listed or 0
   pub scan-numbers : (n : ℕ) → (scan-refusal (Refused n) ≡ n) × (scan-refusal (Listed n) ≡ 0) × (scan-count (Refused n) ≡ 0) × (scan-count (Listed n) ≡ n)
