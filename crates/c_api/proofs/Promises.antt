@@ -1,14 +1,13 @@
 -- What is promised of the C functions. Assumes nothing.
-use mathlib.Core.Path.{_≡_, refl, sym, _∙_, ap, subst}
+use mathlib.Core.Path.{_≡_, refl, sym, _∙_, ap}
 use mathlib.Core.List.{List}
-use mathlib.Core.Logic.{_↔_, ⊎-elim}
+use mathlib.Core.Logic.{_↔_}
 use Prim.Native.Nat.{ℕ, zero, suc, _≤_}
 use native.Mathlib.Omega.{arith}
 use lib.ListN.{length}
 use Rattle.segment.specs.Segment.{Segment, Accepted, segment, refusal}
 use Rattle.segment.specs.Answer.{regular-answer-with, fine-answer-with, regular-answer, fine-answer, regular-refusal, fine-refusal}
-use Rattle.segment.specs.Promise.{Refused-for}
-use Rattle.segment.proofs.Refusals.{decide, accepted, unrefused, refused-number}
+use Rattle.segment.proofs.Refusals.{accepts, refuses}
 use Rattle.domain.specs.Domain.{segment-hard-list}
 use Rattle.domain.specs.Answer.{scan-answer, scan-left, scan-refusal}
 use Rattle.domain.specs.Promise.{Scan-refused-for, Scan-right}
@@ -39,15 +38,6 @@ fine-kept : (n k : ℕ) (s : Segment) (old : List ℕ) → n ≡ suc k → fine-
 unfolding fine-memory fine-answer-with
 fine-kept zero k s old e = absurd (omega (arith, e))
 fine-kept (suc n) k s old e = refl
-
--- a number refuses exactly where its condition says
-module _ (s : Segment) where
-  none : (refusal s ≡ 0) ↔ Accepted s
-  none = (accepted, unrefused)
-
-  some : (n : ℕ) → (refusal s ≡ suc n) ↔ Refused-for s (suc n)
-  some n =
-      (λ e. ⊎-elim (λ a. absurd (omega (arith, e, unrefused a))) (λ r. subst (Refused-for s) (sym (r .1) ∙ e) (r .2)) (decide s), refused-number)
 
 -- seen through an equal number
 through : {m n k : ℕ} {P : Type 0} → m ≡ n → (n ≡ k) ↔ P → (m ≡ k) ↔ P
@@ -113,13 +103,13 @@ promised =
     record {
       clear-is-1 = refl;
       possible-is-0 = refl;
-      regular-accepted = λ M a b N w. let s : Segment = segment M a b N w in through (regular-number (refusal s) s) (none s);
-      regular-refused = λ M a b N w n. let s : Segment = segment M a b N w in through (regular-number (refusal s) s) (some s n);
+      regular-accepted = λ M a b N w. let s : Segment = segment M a b N w in through (regular-number (refusal s) s) (accepts s);
+      regular-refused = λ M a b N w n. let s : Segment = segment M a b N w in through (regular-number (refusal s) s) (refuses s n);
       regular-unchanged =
           λ M a b N w n old e. let s : Segment = segment M a b N w in regular-kept (refusal s) n s old (sym (regular-number (refusal s) s) ∙ e);
       regular-numbers = λ r old. refl;
-      fine-accepted = λ M a b N w. let s : Segment = segment M a b N w in through (fine-number (refusal s) s) (none s);
-      fine-refused = λ M a b N w n. let s : Segment = segment M a b N w in through (fine-number (refusal s) s) (some s n);
+      fine-accepted = λ M a b N w. let s : Segment = segment M a b N w in through (fine-number (refusal s) s) (accepts s);
+      fine-refused = λ M a b N w n. let s : Segment = segment M a b N w in through (fine-number (refusal s) s) (refuses s n);
       fine-unchanged = λ M a b N w n old e. let s : Segment = segment M a b N w in fine-kept (refusal s) n s old (sym (fine-number (refusal s) s) ∙ e);
       fine-numbers = λ f old. refl;
       scan-accepted = scan-accepted;

@@ -14,7 +14,7 @@ use Rattle.segment.specs.declared.RegularAnswer.{RegularAnswer}
 use Rattle.segment.specs.declared.RegularAnswer.the-variants as regular-variants
 use Rattle.segment.specs.declared.FineAnswer.{FineAnswer}
 use Rattle.segment.specs.declared.FineAnswer.the-variants as fine-variants
-use Rattle.segment.proofs.Refusals.{decide, unrefused, refused-number, refused-some}
+use Rattle.segment.proofs.Refusals.{decide, unrefused, refused-number, refused-some, accepts, refuses}
 use Rattle.segment.proofs.Answers.{regular-refused, fine-refused}
 use Rattle.segment.proofs.Periods.{residues-right}
 use Rattle.segment.proofs.Showing.{argument-below, distance-least, clear-iff, verdict-clear, shown-right, sooner, same-sooner, regular-label, few-quotients}
@@ -138,6 +138,8 @@ pub promised : Promised
 promised =
     record {
       residues = λ s a. residues-right a;
+      accepted = λ M a b N w. accepts (segment M a b N w);
+      refused = λ M a b N w. refuses (segment M a b N w);
       regular-answers = regular-answers;
       fine-answers = fine-answers;
       regular-refused = regular-refuses;

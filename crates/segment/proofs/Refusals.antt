@@ -1,6 +1,6 @@
 -- The number that refuses a segment, case by case: the only place that opens the definition's tests. Assumes nothing.
-use mathlib.Core.Path.{_≡_}
-use mathlib.Core.Logic.{_⊎_, inl, inr, ⊎-elim, by-cases}
+use mathlib.Core.Path.{_≡_, sym, _∙_, subst}
+use mathlib.Core.Logic.{_↔_, _⊎_, inl, inr, ⊎-elim, by-cases}
 use Prim.Native.Nat.{ℕ, suc, _^_, _≤_, _<_}
 use native.Mathlib.Decide.{decLt, decLe}
 use native.Mathlib.Omega.{arith}
@@ -144,3 +144,11 @@ refused-some (step-outside a b h) e = omega (arith, e)
 refused-some (start-outside a b c h) e = omega (arith, e)
 refused-some (count-outside a b c d h) e = omega (arith, e)
 refused-some (window-outside a b c d f g h) e = omega (arith, e)
+
+-- a number refuses exactly where its condition says
+pub accepts : (s : Segment) → (refusal s ≡ 0) ↔ Accepted s
+accepts s = (accepted, unrefused)
+
+pub refuses : (s : Segment) (n : ℕ) → (refusal s ≡ suc n) ↔ Refused-for s (suc n)
+refuses s n =
+    (λ e. ⊎-elim (λ a. absurd (omega (arith, e, unrefused a))) (λ r. subst (Refused-for s) (sym (r .1) ∙ e) (r .2)) (decide s), refused-number)

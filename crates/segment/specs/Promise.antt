@@ -3,11 +3,11 @@
 use mathlib.Core.Path.{_≡_}
 use mathlib.Core.List.{List, List·Memᴰ}
 use mathlib.Core.Logic.{_↔_, _⊎_}
-use Prim.Native.Nat.{ℕ, _+_, _*_, _%_, _^_, _≤_, _<_}
+use Prim.Native.Nat.{ℕ, suc, _+_, _*_, _%_, _^_, _≤_, _<_}
 use Rattle.expansion.specs.Rows.{period}
 use Rattle.expansion.specs.Configurations.{Configuration, configuration}
 use Rattle.expansion.specs.Configurations as expansion
-use Rattle.segment.specs.Segment.{Segment, residue, Hard, Accepted}
+use Rattle.segment.specs.Segment.{Segment, residue, Hard, Accepted, refusal}
 use Rattle.segment.specs.Search.{Search}
 use Rattle.segment.specs.Search.Search.{regular, fine}
 use Rattle.segment.specs.Answer.{regular-answer, fine-answer}
@@ -112,6 +112,8 @@ Of P M a b N w = P (record { modulus = M; step = a; start = b; count = N; window
 -- all of it: a number refuses exactly where its condition holds and no lower one's
 pub record Promised : Type 0 where
   pub residues : (s : Segment) → Accepted s → Residues-right s
+  pub accepted : (M a b N w : ℕ) → Of (λ s. (refusal s ≡ 0) ↔ Accepted s) M a b N w
+  pub refused : (M a b N w n : ℕ) → Of (λ s. (refusal s ≡ suc n) ↔ Refused-for s (suc n)) M a b N w
   pub regular-answers : (M a b N w : ℕ) → Of (λ s. Regular-answer-right s (regular-answer M a b N w)) M a b N w
   pub fine-answers : (M a b N w : ℕ) → Of (λ s. Fine-answer-right s (fine-answer M a b N w)) M a b N w
   pub regular-refused : (M a b N w n : ℕ) → Of (λ s. (regular-answer M a b N w ≡ regular-variants.Refused n) ↔ Refused-for s n) M a b N w
