@@ -2,10 +2,6 @@
 use mathlib.Core.Path.{_≡_, refl, sym}
 use mathlib.Core.List.{List, [], _∷_}
 use Prim.Native.Nat.{ℕ, zero, suc}
-use native.Mathlib.Omega.{arith}
-use lib.ListN.{length, drop, length-take, length-drop}
-use Rattle.range.specs.Range.{start-of, count-of, range-of}
-use Rattle.range.proofs.Promises.{promised}
 use Rattle.expansion.specs.declared.Table.{Table}
 use Rattle.expansion.specs.declared.Answer.{Answer}
 use Rattle.segment.specs.declared.Regular.{Regular}
@@ -75,15 +71,3 @@ module _ (a : DomainAnswer) (marks searched : List ℕ) where
       → (a .marks ≡ marks-memory a marks) × (v ∷ a .listed ∷ [] ≡ domain-memory a searched)
   unfolding marks-memory domain-memory unless-refused
   domain-searched h e = rw (h, e) (refl, refl)
-
--- ---- the range of a list
-
--- it has as many entries as are told
-pub range-length : (lo hi : ℕ) (xs : List ℕ) → length (range-of lo hi xs) ≡ count-of lo hi xs
-range-length lo hi xs =
-    omega (
-      arith,
-      length-take (count-of lo hi xs) (drop (start-of lo hi xs) xs),
-      promised .within lo hi xs,
-      length-drop (start-of lo hi xs) xs,
-    )

@@ -5,6 +5,9 @@ use mathlib.Core.Logic.{_↔_}
 use Prim.Native.Nat.{ℕ, zero, suc, _≤_}
 use native.Mathlib.Omega.{arith}
 use lib.ListN.{length}
+use Rattle.expansion.specs.Answer.{answer}
+use Rattle.expansion.specs.declared.Table.{Table}
+use Rattle.expansion.specs.declared.Answer.{Answer}
 use Rattle.segment.specs.Segment.{Segment, Accepted, segment, refusal}
 use Rattle.segment.specs.Answer.{regular-answer-with, fine-answer-with, regular-answer, fine-answer, regular-refusal, fine-refusal}
 use Rattle.segment.proofs.Refusals.{accepts, refuses}
@@ -14,7 +17,7 @@ use Rattle.domain.specs.Promise.{Scan-refused-for, Scan-right}
 use Rattle.domain.specs.declared.ScanAnswer.{ScanAnswer}
 use Rattle.domain.specs.declared.ScanAnswer.the-variants as scan-variants
 use Rattle.domain.proofs.Promises as domains
-use Rattle.c_api.specs.Memory.{unless-refused, verdict-number, regular-memory, fine-memory, scan-memory, marks-memory, domain-memory}
+use Rattle.c_api.specs.Memory.{unless-refused, Delivered, verdict-number, regular-memory, fine-memory, scan-memory, marks-memory, domain-memory}
 use Rattle.c_api.specs.Promise.{Promised}
 
 -- the number that an answer carries is the one that refuses
@@ -97,10 +100,27 @@ handed-over : {A : Type 0} {n : ℕ} (old answered : A) → n ≡ 0 → unless-r
 unfolding unless-refused
 handed-over old answered e = rw e
 
+-- the expansion's columns
+expanded : (e : Answer) {n : ℕ} {old new : Table} → e .refusal ≡ 0 → Delivered e n old new → (n ≡ 0) × (new ≡ e .table)
+expanded e z d = (d .returned ∙ z, d .left ∙ handed-over _ _ z)
+
+not-expanded : (e : Answer) {n k : ℕ} {old new : Table} → e .refusal ≡ suc k → Delivered e n old new → (n ≡ suc k) × (new ≡ old)
+not-expanded e z d = (d .returned ∙ z, d .left ∙ kept _ _ z)
+
+-- equal tables have equal columns
+columns : {s t : Table} → s ≡ t
+    → (s .remainders ≡ t .remainders) × (s .denominators ≡ t .denominators) × (s .quotients ≡ t .quotients) × (s .last ≡ t .last)
+columns e =
+    (ap (λ (x : Table). x .remainders) e, ap (λ (x : Table). x .denominators) e, ap (λ (x : Table). x .quotients) e, ap (λ (x : Table). x .last) e)
+
 pub promised : Promised
 unfolding verdict-number regular-memory fine-memory scan-memory marks-memory domain-memory regular-answer fine-answer
 promised =
     record {
+      expand-numbers = λ M a n m m′ us qs ks us′ qs′ ks′ z d.
+          let r = expanded (answer M a) z d in let c = columns (r .1) in (r .0, c .0, c .1, c .2, c .3);
+      expand-unchanged = λ M a n k m m′ us qs ks us′ qs′ ks′ z d.
+          let r = not-expanded (answer M a) z d in let c = columns (r .1) in (r .0, c .0, c .1, c .2, c .3);
       clear-is-1 = refl;
       possible-is-0 = refl;
       regular-accepted = λ M a b N w. let s : Segment = segment M a b N w in through (regular-number (refusal s) s) (accepts s);

@@ -1,9 +1,10 @@
--- What is promised of the C functions of searches, scans and domains beside their contracts: which numbers they return and leave. Assumes nothing: these are statements.
+-- What is promised of the C functions beside their contracts: which numbers they return and leave. Assumes nothing: these are statements.
 use mathlib.Core.Path.{_≡_}
 use mathlib.Core.List.{List, [], _∷_}
 use mathlib.Core.Logic.{_↔_}
 use Prim.Native.Nat.{ℕ, suc, _≤_}
 use lib.ListN.{length}
+use Rattle.expansion.specs.Answer.{answer}
 use Rattle.segment.specs.Segment.{Accepted, segment}
 use Rattle.segment.specs.Answer.{regular-answer, fine-answer, regular-refusal, fine-refusal}
 use Rattle.segment.specs.Promise.{Refused-for}
@@ -17,10 +18,16 @@ use Rattle.domain.specs.Answer.{scan-answer, scan-left, scan-refusal}
 use Rattle.domain.specs.Promise.{Scan-refused-for}
 use Rattle.domain.specs.declared.ScanAnswer.the-variants as scan-variants
 use Rattle.domain.specs.declared.DomainAnswer.{DomainAnswer}
-use Rattle.c_api.specs.Memory.{verdict-number, regular-memory, fine-memory, scan-memory, marks-memory, domain-memory}
+use Rattle.c_api.specs.Memory.{memory, Delivered, verdict-number, regular-memory, fine-memory, scan-memory, marks-memory, domain-memory}
 
--- 0 is returned for an accepted segment, another number exactly where it refuses, and then the memory is as it was
+-- 0 is returned for what is accepted, of a scan or a domain if there are places enough; another number exactly where it refuses, and then the
+-- memory is as it was
 pub record Promised : Type 0 where
+  pub expand-numbers : (M a n m m′ : ℕ) (us qs ks us′ qs′ ks′ : List ℕ) → answer M a .refusal ≡ 0
+      → Delivered (answer M a) n (memory us qs ks m) (memory us′ qs′ ks′ m′)
+      → (n ≡ 0) × (us′ ≡ answer M a .table .remainders) × (qs′ ≡ answer M a .table .denominators) × (ks′ ≡ answer M a .table .quotients) × (m′ ≡ answer M a .table .last)
+  pub expand-unchanged : (M a n k m m′ : ℕ) (us qs ks us′ qs′ ks′ : List ℕ) → answer M a .refusal ≡ suc k
+      → Delivered (answer M a) n (memory us qs ks m) (memory us′ qs′ ks′ m′) → (n ≡ suc k) × (us′ ≡ us) × (qs′ ≡ qs) × (ks′ ≡ ks) × (m′ ≡ m)
   pub clear-is-1 : verdict-number Clear ≡ 1
   pub possible-is-0 : verdict-number Possible ≡ 0
   pub regular-accepted : (M a b N w : ℕ) → (regular-refusal (regular-answer M a b N w) ≡ 0) ↔ Accepted (segment M a b N w)

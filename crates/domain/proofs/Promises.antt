@@ -26,7 +26,7 @@ use Rattle.domain.specs.declared.part.Domain.{Domain}
 use Rattle.domain.specs.declared.DomainAnswer.{DomainAnswer}
 use Rattle.domain.specs.declared.ScanAnswer.{ScanAnswer}
 use Rattle.domain.specs.declared.ScanAnswer.the-variants as scan-variants
-use Rattle.domain.proofs.Values.{shifted-below, shifted-by, square, triangle-double, value-below, slope-below, value-next}
+use Rattle.domain.proofs.Values.{shifted-below, shifted-by, square, triangle-double, value-below, slope-below, bend-below, value-next, slope-next}
 use Rattle.domain.proofs.Clearing.{covers, first-clears, none-listed}
 use Rattle.domain.proofs.Refusals.{decide, unrefused, accepted, refused-number}
 use Rattle.domain.proofs.Answers.{too-few, enough}
@@ -60,6 +60,8 @@ values M c0 c1 s N w some =
       slope-rising = slope-rising;
       slope-falling = slope-falling;
       differences = value-next (domain M c0 c1 s N w) some;
+      bend-in-range = bend-below (domain M c0 c1 s N w) some;
+      slope-differences = slope-next (domain M c0 c1 s N w) some;
     }
   where
     rising : (n x : ℕ) → s ≡ pos n → value-at (domain M c0 c1 s N w) x ≡ (c0 + c1 * x + n * triangle x) % M

@@ -16,6 +16,6 @@ unfoldable pub counts-from : (left i : ℕ) → Domain → List ℕ
 counts-from zero i d = []
 counts-from (suc n) i d = length (hard-list (part d i)) ∷ counts-from n (suc i) d
 
--- the same of all parts
+-- the marks and the counts of all parts, and how many hard arguments the domain has
 unfoldable pub looks-of : Domain → Looks
 looks-of d = record { marks = marks-from 8 0 d; counts = counts-from 8 0 d; listed = length (hard-list d) }

@@ -17,7 +17,7 @@ use Rattle.segment.specs.Search.Search.{regular, fine}
 use Rattle.segment.specs.Promise as segment-promise
 use Rattle.segment.specs.declared.Verdict.{Verdict}
 use Rattle.segment.specs.declared.Verdict.the-variants.{Clear, Possible}
-use Rattle.domain.specs.Domain.{domain, triangle, value-at, slope-at, is-hard, hard-list, segment-hard-list, spread, covering, part-start, part-count, part, first-verdict, part-verdict, Fair, Accepted}
+use Rattle.domain.specs.Domain.{domain, triangle, value-at, slope-at, bend, is-hard, hard-list, segment-hard-list, spread, covering, part-start, part-count, part, first-verdict, part-verdict, Fair, Accepted}
 use Rattle.domain.specs.Answer.{domain-answer, domain-left, scan-answer, scan-left, scan-refusal, scan-count}
 use Rattle.domain.specs.declared.part.Domain.{Domain}
 use Rattle.domain.specs.declared.DomainAnswer.{DomainAnswer}
@@ -59,6 +59,9 @@ pub record Values-right (M c0 c1 : ℕ) (s : ℤ) (N w : ℕ) : Type 0 where
   -- V(x + 1) is V(x) + c1 + s·x, modulo M
   pub differences : (x : ℕ)
       → value-at (domain M c0 c1 s N w) (suc x) ≡ (value-at (domain M c0 c1 s N w) x + slope-at (domain M c0 c1 s N w) x) % M
+  -- and the slope changes by s, modulo M
+  pub bend-in-range : bend (domain M c0 c1 s N w) < M
+  pub slope-differences : (x : ℕ) → slope-at (domain M c0 c1 s N w) (suc x) ≡ (slope-at (domain M c0 c1 s N w) x + bend (domain M c0 c1 s N w)) % M
 
 -- ---- lists
 
@@ -101,7 +104,9 @@ pub record Parts-right (d : Domain) : Type 0 where
       × ((j : ℕ) → j < 8 → part-start d j ≤ x → x < part-start d j + part-count d j → j ≡ i)
   pub length-of : (i : ℕ) → part d i .count ≡ part-count d i
   pub equal : (i : ℕ) → part-count d i * 8 ≡ d .count
+  pub begins : (i : ℕ) → (part d i .value ≡ value-at d (part-start d i)) × (part d i .slope ≡ slope-at d (part-start d i))
   pub same : (i : ℕ) → (part d i .modulus ≡ d .modulus) × (part d i .falling ≡ d .falling) × (part d i .size ≡ d .size) × (part d i .window ≡ d .window)
+  pub fair-of : (i : ℕ) → Fair (part d i)
   pub covering-of : (i : ℕ) → Covering-right (part d i)
   pub continues : (i y : ℕ) → value-at (part d i) y ≡ value-at d (part-start d i + y)
   pub slope : (i y : ℕ) → slope-at (part d i) y ≡ slope-at d (part-start d i + y)

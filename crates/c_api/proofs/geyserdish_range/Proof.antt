@@ -3,7 +3,7 @@ use mathlib.Core.Path.{_∙_, ap}
 use lib.ListN.{length}
 use borrow.Author.Needs.{needs}
 use Rattle.range.specs.declared.Place.{Place}
-use Rattle.c_api.proofs.Memory.{range-length}
+use Rattle.range.proofs.Promises.{promised}
 use Rattle.c_api.proofs.geyserdish_range.Statement.{statement}
 use Rattle.c_api.proofs.geyserdish_range.Tie as tie
 
@@ -14,7 +14,7 @@ range-requires : tie.Need-range-requires
 range-requires c κs = search needs
 
 returns : tie.Need-returns
-returns c = (ap length (c .range .ensures .holds) ∙ range-length _ _ _, ap (λ (p : Place). p .start) (c .before .locate .ensures))
+returns c = (ap length (c .range .ensures .holds) ∙ promised .handed-back _ _ _ .many, ap (λ (p : Place). p .start) (c .before .locate .ensures))
 
 pub geyserdish-range-spec : {M : Type 1} → statement M
 geyserdish-range-spec = tie.close (tie.spec locate-requires range-requires returns)
