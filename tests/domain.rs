@@ -252,12 +252,6 @@ fn random_domains(own: u64, times: usize, make: impl Fn(&mut Random, usize) -> D
     all(THROUGH, (0..times).map(|i| make(&mut random, i)))
 }
 
-/// A number from 1 to the given one, of any size as likely as of another.
-fn sized(random: &mut Random, most: u64) -> u64 {
-    let number = 1 + random.below(most);
-    (number >> random.below(most.ilog2() as u64 + 1)).max(1)
-}
-
 fn one_of<T: Copy>(random: &mut Random, from: &[T]) -> T {
     from[random.below(from.len() as u64) as usize]
 }
@@ -278,7 +272,7 @@ fn window(random: &mut Random, modulus: u64, count: u64) -> u64 {
 fn curve(random: &mut Random, modulus: u64, count: u64) -> i64 {
     let clearing = modulus as u128 * 16 / (count as u128).pow(3);
     let clearing = random.below(clearing.min(LARGEST_CURVE as u128) as u64 + 1);
-    let any = sized(random, LARGEST_CURVE as u64);
+    let any = random.sized(LARGEST_CURVE as u64);
     let size = one_of(random, &[0, 1, any, clearing, clearing / 8, clearing / 64]);
     signed(random, size)
 }
@@ -291,7 +285,7 @@ fn somewhere(random: &mut Random, modulus: u64, count: u64) -> Domain {
 }
 
 fn random_count(random: &mut Random, eighth: u64) -> u64 {
-    8 * sized(random, eighth)
+    8 * random.sized(eighth)
 }
 
 fn domain(modulus: u64, value: u64, slope: u64, curve: i64, count: u64, window: u64) -> Domain {
@@ -323,7 +317,7 @@ fn random_small_moduli() -> Result<Tally, String> {
 
 fn random_moduli_of_every_size() -> Result<Tally, String> {
     random_domains(1, 40_000, |random, _| {
-        let (modulus, count) = (1 + sized(random, LARGEST - 1), random_count(random, 64));
+        let (modulus, count) = (1 + random.sized(LARGEST - 1), random_count(random, 64));
         somewhere(random, modulus, count)
     })
 }
@@ -337,7 +331,7 @@ fn random_large_moduli() -> Result<Tally, String> {
 
 fn curves_above_the_modulus() -> Result<Tally, String> {
     random_domains(3, 8_000, |random, _| {
-        let (modulus, count) = (1 + sized(random, MOST - 1), random_count(random, 16));
+        let (modulus, count) = (1 + random.sized(MOST - 1), random_count(random, 16));
         let size = modulus + random.below(MOST - modulus + 1);
         let window = one_of(random, &[0, 1, modulus / 5, modulus]);
         Domain { curve: signed(random, size), window, ..somewhere(random, modulus, count) }
@@ -348,7 +342,7 @@ fn curves_above_the_modulus() -> Result<Tally, String> {
 fn common_divisors() -> Result<Tally, String> {
     random_domains(4, 10_000, |random, i| {
         let (period, count) = (2 + random.below(600), random_count(random, 32));
-        let divisor = sized(random, LARGEST / period);
+        let divisor = random.sized(LARGEST / period);
         let somewhere = somewhere(random, divisor * period, count);
         let value = if i % 2 == 0 { somewhere.value } else { divisor * random.below(period) };
         Domain { value, slope: divisor * random.below(period), ..somewhere }
@@ -358,7 +352,7 @@ fn common_divisors() -> Result<Tally, String> {
 /// A value just hard or just not hard, 0 or the largest, at an argument at an end of the domain or of a part, or beside it.
 fn hard_at_the_ends() -> Result<Tally, String> {
     random_domains(5, 20_000, |random, i| {
-        let (modulus, count) = (1 + sized(random, LARGEST - 1), random_count(random, 32));
+        let (modulus, count) = (1 + random.sized(LARGEST - 1), random_count(random, 32));
         let domain = Domain { value: 0, ..somewhere(random, modulus, count) };
         let edge = (i % 9) as u64 * count / 8;
         let x = one_of(random, &[edge.max(1) - 1, edge, edge + 1]);
@@ -372,7 +366,7 @@ fn hard_at_the_ends() -> Result<Tally, String> {
 /// The windows at which the verdict on the domain, or on a part, changes.
 fn windows_where_a_verdict_changes() -> Result<Tally, String> {
     random_domains(6, 20_000, |random, i| {
-        let (modulus, count) = (1 + sized(random, LARGEST - 1), random_count(random, 32));
+        let (modulus, count) = (1 + random.sized(LARGEST - 1), random_count(random, 32));
         let domain = somewhere(random, modulus, count);
         let of = if i % 3 == 0 { domain } else { one_of(random, &domain.parts()) };
         let covering = of.covering();
@@ -387,7 +381,7 @@ fn windows_where_a_verdict_changes() -> Result<Tally, String> {
 fn far_regular_searches() -> Result<Tally, String> {
     random_domains(7, 4_000, |random, _| {
         let (modulus, count) = (THROUGH - random.below(THROUGH - 1000), random_count(random, 16));
-        let near = sized(random, 64);
+        let near = random.sized(64);
         let slope = one_of(random, &[0, near, modulus - near, modulus / 2 + near, modulus / 3 + near]);
         Domain { slope, curve: signed(random, near % 3), ..somewhere(random, modulus, count) }
     })
@@ -492,7 +486,7 @@ fn every_set_of_refusals() -> Result<Tally, String> {
 fn parts_of_the_reference() -> Result<String, String> {
     let (mut random, mut values) = (Random(SEED + 13), 0);
     for _ in 0..2_000 {
-        let (modulus, count) = (1 + sized(&mut random, LARGEST - 1), random_count(&mut random, 64));
+        let (modulus, count) = (1 + random.sized(LARGEST - 1), random_count(&mut random, 64));
         let domain = somewhere(&mut random, modulus, count);
         let of_parts = domain.parts().into_iter().flat_map(|part| (0..part.count).map(move |x| part.value_at(x)));
         if !of_parts.eq((0..count).map(|x| domain.value_at(x))) {
@@ -570,8 +564,8 @@ fn every_small_scan() -> Result<Tally, String> {
 fn random_scans() -> Result<Tally, String> {
     let mut random = Random(SEED + 10);
     all_scans((0..40_000).map(|i| {
-        let modulus = 1 + sized(&mut random, if i % 2 == 0 { LARGEST - 1 } else { 4096 });
-        let (step, count) = (random.below(modulus), sized(&mut random, if i % 32 == 0 { 1 << 13 } else { 256 }));
+        let modulus = 1 + random.sized(if i % 2 == 0 { LARGEST - 1 } else { 4096 });
+        let (step, count) = (random.below(modulus), random.sized(if i % 32 == 0 { 1 << 13 } else { 256 }));
         let (start, window) = (random.below(modulus), window(&mut random, modulus, count));
         // A residue just hard or just not hard at the last argument, or at the one after it.
         let from_start = [start, 0, window % modulus, window.max(1) - 1][i % 4] as i128;
@@ -697,7 +691,7 @@ fn ascending(random: &mut Random, length: u64, below: u64) -> Vec<u32> {
 fn random_ranges() -> Result<String, String> {
     let (mut random, mut ranges) = (Random(SEED + 11), 0);
     for i in 0..6_000 {
-        let (length, below) = (1 + sized(&mut random, 300), [MOST, 1 << 32, 400][i % 3]);
+        let (length, below) = (1 + random.sized(300), [MOST, 1 << 32, 400][i % 3]);
         let mut list = ascending(&mut random, length, below);
         let at = random.below(list.len() as u64) as usize;
         match i % 4 {

@@ -1,6 +1,9 @@
 //! What the test programs share: a seed, random numbers, the caller's memory with canaries around it, and the running of
 //! named tests.
 
+// Each program uses some of it.
+#![allow(dead_code)]
+
 use std::fmt::Display;
 use std::process::exit;
 
@@ -78,6 +81,12 @@ impl Random {
 
     pub fn below(&mut self, n: u64) -> u64 {
         (self.next() as u128 * n as u128 >> 64) as u64
+    }
+
+    /// A number from 1 to the given one, of any size as likely as of another.
+    pub fn sized(&mut self, most: u64) -> u64 {
+        let number = 1 + self.below(most);
+        (number >> self.below(most.ilog2() as u64 + 1)).max(1)
     }
 }
 

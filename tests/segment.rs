@@ -188,12 +188,6 @@ fn random_segments(own: u64, times: usize, make: impl Fn(&mut Random, usize) -> 
     all(THROUGH, (0..times).map(|i| make(&mut random, i)))
 }
 
-/// A number from 1 to the given one, of any size as likely as of another.
-fn sized(random: &mut Random, most: u64) -> u64 {
-    let number = 1 + random.below(most);
-    (number >> random.below(most.ilog2() as u64 + 1)).max(1)
-}
-
 fn segment([modulus, step, start, count, window]: [u64; 5]) -> Segment {
     Segment { modulus, step, start, count, window }
 }
@@ -206,10 +200,10 @@ fn somewhere(random: &mut Random, modulus: u64, step: u64, count: u64) -> Segmen
 
 /// A modulus and a step with random quotients, one in four of them large, and a common divisor.
 fn by_quotients(random: &mut Random) -> (u64, u64) {
-    let divisor = sized(random, 1 << 32) as u128;
+    let divisor = random.sized(1 << 32) as u128;
     let (mut modulus, mut step) = (divisor * (2 + random.below(9) as u128), divisor);
     for _ in 0..random.below(60) {
-        let quotient = if random.below(4) == 0 { sized(random, 1 << 24) } else { 1 + random.below(3) } as u128;
+        let quotient = if random.below(4) == 0 { random.sized(1 << 24) } else { 1 + random.below(3) } as u128;
         if modulus * quotient + step > LARGEST as u128 {
             break;
         }
@@ -234,8 +228,8 @@ fn every_small_segment() -> Result<Tally, String> {
 
 fn random_moduli_of_every_size() -> Result<Tally, String> {
     random_segments(0, 20_000, |random, _| {
-        let modulus = 1 + sized(random, LARGEST - 1);
-        let (step, count) = (random.below(modulus), sized(random, 4096));
+        let modulus = 1 + random.sized(LARGEST - 1);
+        let (step, count) = (random.below(modulus), random.sized(4096));
         somewhere(random, modulus, step, count)
     })
 }
@@ -256,7 +250,7 @@ fn common_divisors_and_powers_of_two() -> Result<Tally, String> {
         } else {
             2 + random.below(LARGEST / divisor - 1)
         };
-        let (step, count) = (divisor * random.below(times), sized(random, 4096));
+        let (step, count) = (divisor * random.below(times), random.sized(4096));
         somewhere(random, divisor * times, step, count)
     })
 }
@@ -264,8 +258,8 @@ fn common_divisors_and_powers_of_two() -> Result<Tally, String> {
 fn counts_about_the_period() -> Result<Tally, String> {
     random_segments(3, 10_000, |random, i| {
         let period = 2 + random.below(2000);
-        let divisor = sized(random, LARGEST / period);
-        let count = [period - 1, period, period + 1, 2 * period, sized(random, MOST), MOST][i % 6];
+        let divisor = random.sized(LARGEST / period);
+        let count = [period - 1, period, period + 1, 2 * period, random.sized(MOST), MOST][i % 6];
         let step = divisor * random.below(period);
         somewhere(random, divisor * period, step, count)
     })
@@ -275,7 +269,7 @@ fn extreme_steps() -> Result<Tally, String> {
     let mut random = Random(SEED + 4);
     let mut moduli = vec![2, 3, 4, 5, 6, 45, 1 << 10, MOST - 1, MOST, MOST + 1, u32::MAX as u64, 1 << 32, 1 << 61];
     moduli.extend([LARGEST - 57, LARGEST - 1, LARGEST]);
-    moduli.extend((0..8).map(|_| 1 + sized(&mut random, LARGEST - 1)));
+    moduli.extend((0..8).map(|_| 1 + random.sized(LARGEST - 1)));
     let mut segments = Vec::new();
     for m in moduli {
         let mut steps = vec![0, 1, 2, 3, m / 3, m / 2 - 1, m / 2, m / 2 + 1, m - 2, m - 1];
@@ -295,7 +289,7 @@ fn extreme_steps() -> Result<Tally, String> {
 fn random_quotients() -> Result<Tally, String> {
     random_segments(5, 12_000, |random, i| {
         let (modulus, step) = by_quotients(random);
-        let count = sized(random, if i % 64 == 0 { MOST } else { 1 << 13 });
+        let count = random.sized(if i % 64 == 0 { MOST } else { 1 << 13 });
         somewhere(random, modulus, step, count)
     })
 }
@@ -321,7 +315,7 @@ fn counts_of_configurations() -> Result<Tally, String> {
 fn starts_at_points() -> Result<Tally, String> {
     random_segments(7, 9_000, |random, i| {
         let (modulus, step) = by_quotients(random);
-        let (count, x) = (sized(random, 4096), sized(random, 1 << 14) - 1);
+        let (count, x) = (random.sized(4096), random.sized(1 << 14) - 1);
         let point = (step as u128 * x as u128 % modulus as u128) as u64;
         let start = [point, (point + 1) % modulus, (point + modulus - 1) % modulus][i % 3];
         Segment { start, ..somewhere(random, modulus, step, count) }
@@ -422,7 +416,7 @@ fn clear_is_right() -> Result<String, String> {
     let (mut random, mut clear) = (Random(SEED + 11), 0);
     for i in 0..4_000 {
         let (modulus, step) = by_quotients(&mut random);
-        let count = sized(&mut random, 4096);
+        let count = random.sized(4096);
         let segment = somewhere(&mut random, modulus, step, count);
         let (least, _) = segment.least(0..count);
         let window = [least, least + 1, segment.window][i % 3];
@@ -443,7 +437,7 @@ fn smaller_stays_clear() -> Result<String, String> {
     let (mut random, mut smaller) = (Random(SEED + 12), 0);
     for _ in 0..20_000 {
         let (modulus, step) = by_quotients(&mut random);
-        let count = sized(&mut random, MOST);
+        let count = random.sized(MOST);
         let segment = somewhere(&mut random, modulus, step, count);
         for search in [Regular, Fine] {
             let (window, ..) = found(search, &segment)?;

@@ -5,6 +5,7 @@ use mathlib.Core.Logic.{_↔_}
 use Prim.Native.Nat.{ℕ, zero, suc, _≤_}
 use native.Mathlib.Omega.{arith}
 use lib.ListN.{length}
+use Rattle.numbers.proofs.Equivalences.{through}
 use Rattle.expansion.specs.Answer.{answer}
 use Rattle.expansion.specs.declared.Table.{Table}
 use Rattle.expansion.specs.declared.Answer.{Answer}
@@ -41,10 +42,6 @@ fine-kept : (n k : ℕ) (s : Segment) (old : List ℕ) → n ≡ suc k → fine-
 unfolding fine-memory fine-answer-with
 fine-kept zero k s old e = absurd (omega (arith, e))
 fine-kept (suc n) k s old e = refl
-
--- seen through an equal number
-through : {m n k : ℕ} {P : Type 0} → m ≡ n → (n ≡ k) ↔ P → (m ≡ k) ↔ P
-through e i = (λ f. i .0 (sym e ∙ f), λ p. e ∙ i .1 p)
 
 -- ---- scans
 

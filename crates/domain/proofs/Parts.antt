@@ -2,14 +2,14 @@
 use mathlib.Core.Path.{_≡_, refl, sym, _∙_, ap, ap₂}
 use mathlib.Core.List.{List, [], _∷_, _++_}
 use Prim.Native.Nat.{ℕ, zero, suc, _+_, _-_, _≤_, _<_}
-use native.Mathlib.Nat.{add-zero, zero-add}
+use native.Mathlib.Nat.{add-zero}
 use native.Mathlib.Omega.{arith}
 use native.Mathlib.Numerals.{add-one}
 use lib.Dec.{ltb}
-use lib.ListN.{length, getD, set, replicate, length-append}
+use lib.ListN.{length, set, replicate, length-append}
 use lib.Seq.{sets}
-use Rattle.numbers.specs.Lists.{having, raised, in-front}
-use Rattle.numbers.proofs.Selections.{having-few, having-joined, having-raised, raised-length, written-in-front, written-after}
+use Rattle.numbers.specs.Lists.{having, enumerated, raised, in-front}
+use Rattle.numbers.proofs.Selections.{enumerated-next, having-few, having-joined, having-raised, raised-length, written-in-front, written-after}
 use Rattle.segment.specs.declared.Verdict.the-variants.{Clear, Possible}
 use Rattle.domain.specs.Domain.{Accepted, Fair, value-at, is-hard, hard-list, part-start, part-count, part, part-verdict, mark-of, marks-from}
 use Rattle.domain.specs.Phases.{look-of, counts-from, looks-of}
@@ -123,14 +123,6 @@ module _ (d : Domain) (i : ℕ) (more : i < 8) where
   unfolding pieces
   pieces-next = rw left
 
-  marks-next : marks-from (8 - i) i d ≡ mark-of (part-verdict (part d i)) ∷ marks-from (8 - suc i) (suc i) d
-  unfolding marks-from
-  marks-next = rw left
-
-  counts-next : counts-from (8 - i) i d ≡ length (hard-list (part d i)) ∷ counts-from (8 - suc i) (suc i) d
-  unfolding counts-from
-  counts-next = rw left
-
   pieces-length : length (pieces (8 - i) i d) ≡ length (hard-list (part d i)) + length (pieces (8 - suc i) (suc i) d)
   pieces-length = ap length pieces-next ∙ length-append (piece d i) (pieces (8 - suc i) (suc i) d) ∙ omega (arith, piece-length d i)
 
@@ -159,13 +151,13 @@ module _ {d : Domain} {marks counts : List ℕ} {listed i : ℕ} (l : Looking d 
       (record {
         accepted = l .accepted;
         within = h;
-        marked = rw (marks-next d i h) at (l .marked);
-        counted = rw (counts-next d i h) at (l .counted);
+        marked = rw (enumerated-next _ 8 i h) at (l .marked);
+        counted = rw (enumerated-next _ 8 i h) at (l .counted);
         to-come = omega (arith, l .to-come, pieces-length d i h);
       })
 
   pub look-done : 8 ≤ i → record { marks = marks; counts = counts; listed = listed } ≡ looks-of d
-  unfolding looks-of marks-from counts-from pieces
+  unfolding looks-of enumerated pieces
   look-done h =
       let e : i ≡ 8 = omega (arith, l .within) in
       let m : marks ≡ marks-from 8 0 d = rw e at (l .marked) in
@@ -179,18 +171,6 @@ module _ {d : Domain} {marks counts : List ℕ} {listed i : ℕ} (l : Looking d 
 pub nothing-listed : (d : Domain) (i place : ℕ) (list : List ℕ) {n : ℕ} → n ≡ length (hard-list (part d i)) → n ≡ 0 → list ≡ sets list place (piece d i)
 unfolding raised
 nothing-listed d i place list e z = sym (ap (λ (xs : List ℕ). sets list place (raised (part-start d i) xs)) (length-zero (hard-list (part d i)) (omega (arith, e, z))))
-
--- the counts of the parts, one by one
-counts-at : (d : Domain) (n k i : ℕ) → i < n → getD (counts-from n k d) i 0 ≡ length (hard-list (part d (k + i)))
-unfolding counts-from
-counts-at d zero k i h = absurd (omega arith)
-counts-at d (suc n) k zero h = ap (λ (j : ℕ). length (hard-list (part d j))) (sym (add-zero k))
-counts-at d (suc n) k (suc i) h =
-    let e : suc k + i ≡ k + suc i = omega arith in
-    counts-at d n (suc k) i (omega arith) ∙ ap (λ (j : ℕ). length (hard-list (part d j))) e
-
-pub count-at : (d : Domain) (i : ℕ) → i < 8 → getD (counts-from 8 0 d) i 0 ≡ length (hard-list (part d i))
-count-at d i h = counts-at d 8 0 i h ∙ ap (λ (j : ℕ). length (hard-list (part d j))) (zero-add i)
 
 -- before the part i, with what those before it list written, and the next one to be written at the place
 pub record Writing (d : Domain) (old list : List ℕ) (place i : ℕ) : Type 0 where

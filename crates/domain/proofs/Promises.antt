@@ -10,6 +10,7 @@ use native.Mathlib.Omega.{arith}
 use lib.IntN.{ℤ, pos, negsuc}
 use lib.ListN.{length, take}
 use Rattle.numbers.specs.Lists.{in-front}
+use Rattle.numbers.proofs.Equivalences.{through}
 use Rattle.numbers.proofs.Congruences.{Congruent, equals, flip, chain, cancel, same, same-remainder, by-remainders, doubled, halved}
 use Rattle.numbers.proofs.Selections.{in-front-length, in-front-at, in-front-after, taken-front}
 use Rattle.segment.specs.Segment.{Segment, segment}
@@ -210,10 +211,6 @@ answer-refused d e = rw e
 answer-reported : {n : ℕ} (d : Domain) → n ≡ 0 → domain-answer-with n d ≡ reported d
 unfolding domain-answer-with
 answer-reported d e = rw e
-
--- seen through an equal number
-through : {m n k : ℕ} {P : Type 0} → m ≡ n → (n ≡ k) ↔ P → (m ≡ k) ↔ P
-through e i = (λ f. i .0 (sym e ∙ f), λ p. e ∙ i .1 p)
 
 domains : (M c0 c1 : ℕ) (s : ℤ) (N w : ℕ) (old : List ℕ)
     → Domain-right M c0 c1 s N w old (domain-answer M c0 c1 s N w (length old)) (domain-left M c0 c1 s N w old)

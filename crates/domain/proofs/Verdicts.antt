@@ -1,10 +1,12 @@
 -- Parts, verdicts and marks as promised. Assumes nothing.
 use mathlib.Core.Path.{_≡_, refl, sym, _∙_, ap}
 use mathlib.Core.Logic.{_↔_}
-use Prim.Native.Nat.{ℕ, zero, suc, _+_, _-_, _*_, _/_, _≤_, _<_}
-use native.Mathlib.Nat.{mod-lt, div-add-mod', mul-le-mul-right, le-antisymm, lt-of-not-le, add-zero, zero-add}
+use Prim.Native.Nat.{ℕ, suc, _+_, _-_, _*_, _/_, _≤_, _<_}
+use native.Mathlib.Nat.{mod-lt, div-add-mod', mul-le-mul-right, le-antisymm, lt-of-not-le}
 use native.Mathlib.Omega.{arith}
-use lib.ListN.{length, getD, getD-replicate}
+use lib.ListN.{getD, getD-replicate}
+use Rattle.numbers.proofs.Equivalences.{through}
+use Rattle.numbers.proofs.Selections.{enumerated-length, enumerated-at}
 use Rattle.segment.specs.Answer.{regular-answer, regular-answer-with, regular-shown, fine-answer, fine-answer-with, fine-shown}
 use Rattle.segment.specs.Search.{distance}
 use Rattle.segment.specs.Search.Search.{regular, fine}
@@ -158,25 +160,8 @@ unfolding mark-of
 mark-possible Clear = (λ e. absurd (omega (arith, e)), λ e. ap mark-of e)
 mark-possible Possible = (λ e. refl, λ e. refl)
 
-marks-length : (n i : ℕ) (d : Domain) → length (marks-from n i d) ≡ n
-unfolding marks-from
-marks-length zero i d = refl
-marks-length (suc n) i d = ap suc (marks-length n (suc i) d)
-
-marks-at : (d : Domain) (n k i : ℕ) → i < n → getD (marks-from n k d) i 0 ≡ mark-of (part-verdict (part d (k + i)))
-unfolding marks-from
-marks-at d zero k i h = absurd (omega arith)
-marks-at d (suc n) k zero h = ap (λ (j : ℕ). mark-of (part-verdict (part d j))) (sym (add-zero k))
-marks-at d (suc n) k (suc i) h =
-    let e : suc k + i ≡ k + suc i = omega arith in
-    marks-at d n (suc k) i (omega arith) ∙ ap (λ (j : ℕ). mark-of (part-verdict (part d j))) e
-
 mark-at : (d : Domain) (i : ℕ) → i < 8 → getD (marks-from 8 0 d) i 0 ≡ mark-of (part-verdict (part d i))
-mark-at d i h = marks-at d 8 0 i h ∙ ap (λ (j : ℕ). mark-of (part-verdict (part d j))) (zero-add i)
-
--- seen through an equal number
-through : {m n k : ℕ} {P : Type 0} → m ≡ n → (n ≡ k) ↔ P → (m ≡ k) ↔ P
-through e i = (λ f. i .0 (sym e ∙ f), λ p. e ∙ i .1 p)
+mark-at d i h = enumerated-at (λ j. mark-of (part-verdict (part d j))) 8 i h
 
 -- a verdict that is not clear is possible
 otherwise : (v : Verdict) → (v ≡ Clear → ⊥) → v ≡ Possible
@@ -199,7 +184,7 @@ marks-right d a Clear =
     apart e = unfold mark-of in omega (arith, ap mark-of e)
 marks-right d a Possible =
     record {
-      eight = marks-length 8 0 d;
+      eight = enumerated-length (λ j. mark-of (part-verdict (part d j))) 8 0;
       not-looked-at = λ e. absurd (apart e);
       clear = λ e i h. through (mark-at d i h) (mark-clear (part-verdict (part d i)));
       possible = λ e i h. through (mark-at d i h) (mark-possible (part-verdict (part d i)));

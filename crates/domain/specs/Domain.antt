@@ -3,12 +3,12 @@
 -- s the curve, N the count, w the window. Assumes nothing: these are definitions.
 use mathlib.Core.Path.{_≡_}
 use mathlib.Core.Bool.{Bool, true, false, cond}
-use mathlib.Core.List.{List, [], _∷_}
-use Prim.Native.Nat.{ℕ, zero, suc, _+_, _-_, _*_, _/_, _%_, _^_, _≤_, _<_, min}
+use mathlib.Core.List.{List}
+use Prim.Native.Nat.{ℕ, _+_, _-_, _*_, _/_, _%_, _^_, _≤_, _<_, min}
 use lib.Dec.{ltb}
 use lib.IntN.{ℤ, pos, negsuc, natAbs}
 use lib.ListN.{replicate}
-use Rattle.numbers.specs.Lists.{having}
+use Rattle.numbers.specs.Lists.{having, enumerated}
 use Rattle.segment.specs.Segment.{Segment, segment, residue}
 use Rattle.segment.specs.Answer.{regular-answer, fine-answer}
 use Rattle.segment.specs.declared.Verdict.{Verdict}
@@ -136,9 +136,8 @@ mark-of Clear = 1
 mark-of Possible = 2
 
 -- the marks of as many parts from i on as are left
-unfoldable pub marks-from : (left i : ℕ) → Domain → List ℕ
-marks-from zero i d = []
-marks-from (suc n) i d = mark-of (part-verdict (part d i)) ∷ marks-from n (suc i) d
+abbrev pub marks-from : (left i : ℕ) → Domain → List ℕ
+marks-from n i d = enumerated (λ j. mark-of (part-verdict (part d j))) n i
 
 -- the eight marks: 0, not looked at, where phase 1 clears the domain
 unfoldable pub marks-after : Verdict → Domain → List ℕ

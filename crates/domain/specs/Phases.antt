@@ -1,7 +1,8 @@
 -- What is known of the parts of a domain before anything is listed, for the contracts of the functions that look at them. Assumes nothing: these are definitions.
-use mathlib.Core.List.{List, [], _∷_}
-use Prim.Native.Nat.{ℕ, zero, suc}
+use mathlib.Core.List.{List}
+use Prim.Native.Nat.{ℕ}
 use lib.ListN.{length}
+use Rattle.numbers.specs.Lists.{enumerated}
 use Rattle.domain.specs.Domain.{hard-list, part, part-verdict, mark-of, marks-from}
 use Rattle.domain.specs.declared.part.Domain.{Domain}
 use Rattle.domain.specs.declared.phases.Look.{Look}
@@ -12,9 +13,8 @@ unfoldable pub look-of : (part : Domain) → Look
 look-of p = record { mark = mark-of (part-verdict p); hard = length (hard-list p) }
 
 -- how many hard arguments as many parts from i on have as are left
-unfoldable pub counts-from : (left i : ℕ) → Domain → List ℕ
-counts-from zero i d = []
-counts-from (suc n) i d = length (hard-list (part d i)) ∷ counts-from n (suc i) d
+abbrev pub counts-from : (left i : ℕ) → Domain → List ℕ
+counts-from n i d = enumerated (λ j. length (hard-list (part d j))) n i
 
 -- the marks and the counts of all parts, and how many hard arguments the domain has
 unfoldable pub looks-of : Domain → Looks

@@ -1,6 +1,6 @@
 -- The settled examples, computed from the definitions. Assumes nothing.
 use mathlib.Core.Path.{refl}
-use Rattle.numbers.specs.Lists.{zero-padded, having, in-front}
+use Rattle.numbers.specs.Lists.{zero-padded, having, enumerated, in-front}
 use Rattle.expansion.specs.Rows.{rows-from, expansion}
 use Rattle.expansion.specs.Configurations.{regular-from, regular, parts-from, fine-from, fine}
 use Rattle.expansion.specs.Answer.{refusal, answer-with, answer}
@@ -8,7 +8,7 @@ use Rattle.segment.specs.Segment.{residue}
 use Rattle.segment.specs.Segment as segments
 use Rattle.segment.specs.Search.{configurations-of, reached-in, reached, least-from, argument, distance}
 use Rattle.segment.specs.Answer.{verdict-at, regular-shown, fine-shown, regular-answer-with, fine-answer-with, regular-answer, fine-answer}
-use Rattle.domain.specs.Domain.{is-negative, triangle, shifted, value-at, slope-at, is-hard, hard-list, segment-hard-list, spread, covering-step, covering-start, covering-window, part-count, part-start, part, regular-verdict, fine-verdict, first-verdict, part-verdict, mark-of, marks-from, marks-after}
+use Rattle.domain.specs.Domain.{is-negative, triangle, shifted, value-at, slope-at, is-hard, hard-list, segment-hard-list, spread, covering-step, covering-start, covering-window, part-count, part-start, part, regular-verdict, fine-verdict, first-verdict, part-verdict, mark-of, marks-after}
 use Rattle.domain.specs.Answer.{curve-refusal, overflow, or-else, left-in, reported, domain-answer-with, domain-answer, domain-left, scan-answer-with, scan-answer, scan-left}
 use Rattle.domain.specs.Answer as domain-answers
 use Rattle.examples.specs.Settled.{Example-1, Example-9, Domain-of-10, Example-11, Settled}
@@ -43,11 +43,11 @@ example-9 =
     }
 
 domain-of-10 : Domain-of-10
-unfolding rows-from expansion regular-from regular parts-from fine-from fine residue segments.refusal configurations-of reached-in reached least-from argument distance verdict-at regular-shown fine-shown regular-answer-with fine-answer-with regular-answer fine-answer having in-front triangle shifted value-at slope-at is-negative is-hard hard-list spread covering-step covering-start covering-window part-count part-start part regular-verdict fine-verdict first-verdict part-verdict mark-of marks-from marks-after curve-refusal domain-answers.refusal overflow or-else left-in reported domain-answer-with domain-answer domain-left
+unfolding rows-from expansion regular-from regular parts-from fine-from fine residue segments.refusal configurations-of reached-in reached least-from argument distance verdict-at regular-shown fine-shown regular-answer-with fine-answer-with regular-answer fine-answer having enumerated in-front triangle shifted value-at slope-at is-negative is-hard hard-list spread covering-step covering-start covering-window part-count part-start part regular-verdict fine-verdict first-verdict part-verdict mark-of marks-after curve-refusal domain-answers.refusal overflow or-else left-in reported domain-answer-with domain-answer domain-left
 domain-of-10 = record { answered = refl; left = λ x y. refl }
 
 example-11 : Example-11
-unfolding rows-from expansion regular-from regular parts-from fine-from fine residue segments.refusal configurations-of reached-in reached least-from argument distance verdict-at regular-shown fine-shown regular-answer-with fine-answer-with regular-answer fine-answer having in-front triangle shifted value-at slope-at is-negative is-hard hard-list spread covering-step covering-start covering-window part-count part-start part regular-verdict fine-verdict first-verdict part-verdict mark-of marks-from marks-after curve-refusal domain-answers.refusal overflow or-else left-in reported domain-answer-with domain-answer domain-left
+unfolding rows-from expansion regular-from regular parts-from fine-from fine residue segments.refusal configurations-of reached-in reached least-from argument distance verdict-at regular-shown fine-shown regular-answer-with fine-answer-with regular-answer fine-answer having enumerated in-front triangle shifted value-at slope-at is-negative is-hard hard-list spread covering-step covering-start covering-window part-count part-start part regular-verdict fine-verdict first-verdict part-verdict mark-of marks-after curve-refusal domain-answers.refusal overflow or-else left-in reported domain-answer-with domain-answer domain-left
 example-11 = record { rising = refl; rising-left = λ x y. refl; falling = refl; falling-left = λ x y. refl }
 
 pub settled : Settled

@@ -10,7 +10,7 @@ use native.Mathlib.Nat.{eq-or-lt-of-le, zero-add, add-zero, add-suc, suc-add}
 use native.Mathlib.Omega.{arith}
 use lib.ListN.{length, getD, set, take, drop, length-append, length-drop, List·getD-append}
 use lib.Seq.{sets, sets-eq, getD-append-add, getD-drop}
-use Rattle.numbers.specs.Lists.{having, how-many, raised, in-front}
+use Rattle.numbers.specs.Lists.{having, how-many, enumerated, raised, in-front}
 use Rattle.numbers.proofs.Lists.{Ascending-from}
 use Rattle.numbers.proofs.Lists.Ascending-from.{ascending-nil, ascending-cons}
 
@@ -142,6 +142,32 @@ pub raised-zero : (xs : List ℕ) → raised 0 xs ≡ xs
 unfolding raised
 raised-zero [] = refl
 raised-zero (x ∷ xs) = ap₂ (λ (y : ℕ) (ys : List ℕ). y ∷ ys) (omega arith) (raised-zero xs)
+
+-- ---- a function's values one after another
+
+module _ (f : ℕ → ℕ) where
+  pub enumerated-length : (n i : ℕ) → length (enumerated f n i) ≡ n
+  unfolding enumerated
+  enumerated-length zero i = refl
+  enumerated-length (suc n) i = ap suc (enumerated-length n (suc i))
+
+  pub enumerated-from : (n k i : ℕ) → i < n → getD (enumerated f n k) i 0 ≡ f (k + i)
+  unfolding enumerated
+  enumerated-from zero k i h = absurd (omega arith)
+  enumerated-from (suc n) k zero h = ap f (sym (add-zero k))
+  enumerated-from (suc n) k (suc i) h =
+      let e : suc k + i ≡ k + suc i = omega arith in
+      enumerated-from n (suc k) i (omega arith) ∙ ap f e
+
+  pub enumerated-at : (n i : ℕ) → i < n → getD (enumerated f n 0) i 0 ≡ f i
+  enumerated-at n i h = enumerated-from n 0 i h ∙ ap f (zero-add i)
+
+  -- one value more, of n
+  pub enumerated-next : (n i : ℕ) → i < n → enumerated f (n - i) i ≡ f i ∷ enumerated f (n - suc i) (suc i)
+  unfolding enumerated
+  enumerated-next n i h =
+      let left : n - i ≡ suc (n - suc i) = omega arith in
+      rw left
 
 -- ---- written into a buffer
 

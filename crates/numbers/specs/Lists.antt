@@ -22,6 +22,11 @@ unfoldable pub how-many : (property : ℕ → Bool) → (left x : ℕ) → ℕ
 how-many p zero x = 0
 how-many p (suc n) x = cond (p x) 1 0 + how-many p n (suc x)
 
+-- f(i), f(i + 1) and so on, as many as are left
+unfoldable pub enumerated : (f : ℕ → ℕ) → (left i : ℕ) → List ℕ
+enumerated f zero i = []
+enumerated f (suc n) i = f i ∷ enumerated f n (suc i)
+
 -- each number of a list, so much larger
 unfoldable pub raised : (by : ℕ) → List ℕ → List ℕ
 raised h [] = []

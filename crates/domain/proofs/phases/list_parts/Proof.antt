@@ -4,8 +4,9 @@ use mathlib.Core.List.{List}
 use Prim.Native.Nat.{ℕ, _+_, _-_, _≤_}
 use native.Mathlib.Omega.{arith}
 use lib.ListN.{length, getD}
+use Rattle.numbers.proofs.Selections.{enumerated-at}
 use Rattle.domain.specs.Domain.{hard-list, part}
-use Rattle.domain.proofs.Parts.{Writing, few-hard, write-first, write-room, write-next, write-done, count-at}
+use Rattle.domain.proofs.Parts.{Writing, few-hard, write-first, write-room, write-next, write-done}
 use Rattle.domain.proofs.phases.list_parts.Statement.{statement}
 use Rattle.domain.proofs.phases.list_parts.Tie as tie
 
@@ -20,7 +21,7 @@ hard-is : (c : tie.In-loop Inv-loop μ-loop)
     → let s = c .before .before .before in getD (s .args .t2) (c .before .loop .i) 0 ≡ length (hard-list (part (s .args .domain) (c .before .loop .i)))
 hard-is c =
     let s = c .before .before .before in
-    ap (λ (xs : List ℕ). getD xs (c .before .loop .i) 0) (s .pre .1 .0) ∙ count-at (s .args .domain) (c .before .loop .i) (c .loop-test .taken)
+    ap (λ (xs : List ℕ). getD xs (c .before .loop .i) 0) (s .pre .1 .0) ∙ enumerated-at (λ j. length (hard-list (part (s .args .domain) j))) 8 (c .before .loop .i) (c .loop-test .taken)
 
 -- and that there is room for them
 room : (c : tie.In-loop Inv-loop μ-loop)
