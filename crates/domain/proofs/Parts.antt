@@ -1,6 +1,6 @@
 -- The eight parts cover the arguments of a domain once each and go on as it does, so that their hard arguments are the domain's. Assumes nothing.
 use mathlib.Core.Path.{_≡_, refl, sym, _∙_, ap, ap₂}
-use mathlib.Core.List.{List, [], _∷_, _++_}
+use mathlib.Core.List.{List, [], _++_}
 use Prim.Native.Nat.{ℕ, zero, suc, _+_, _-_, _≤_, _<_}
 use native.Mathlib.Nat.{add-zero}
 use native.Mathlib.Omega.{arith}
@@ -9,6 +9,7 @@ use lib.Dec.{ltb}
 use lib.ListN.{length, set, replicate, length-append}
 use lib.Seq.{sets}
 use Rattle.numbers.specs.Lists.{having, enumerated, raised, in-front}
+use Rattle.numbers.proofs.Lists.{no-entries}
 use Rattle.numbers.proofs.Selections.{enumerated-next, having-few, having-joined, having-raised, raised-length, written-in-front, written-after}
 use Rattle.segment.specs.declared.Verdict.the-variants.{Clear, Possible}
 use Rattle.domain.specs.Domain.{Accepted, Fair, value-at, is-hard, hard-list, part-start, part-count, part, part-verdict, mark-of, marks-from}
@@ -96,10 +97,6 @@ unfolding hard-list stretch part-count
 pieces-all {d} e =
     pieces-are d (omega (arith, e .fair .value-below)) 8 0 ∙ ap₂ (having (is-hard d)) (omega (arith, e .count-eighths)) (part-first d)
 
-length-zero : (xs : List ℕ) → length xs ≤ 0 → xs ≡ []
-length-zero [] h = refl
-length-zero (x ∷ xs) h = absurd (omega arith)
-
 -- ---- looking at parts
 
 -- a part that is clear has no hard argument
@@ -170,7 +167,7 @@ module _ {d : Domain} {marks counts : List ℕ} {listed i : ℕ} (l : Looking d 
 -- a part without hard arguments changes nothing
 pub nothing-listed : (d : Domain) (i place : ℕ) (list : List ℕ) {n : ℕ} → n ≡ length (hard-list (part d i)) → n ≡ 0 → list ≡ sets list place (piece d i)
 unfolding raised
-nothing-listed d i place list e z = sym (ap (λ (xs : List ℕ). sets list place (raised (part-start d i) xs)) (length-zero (hard-list (part d i)) (omega (arith, e, z))))
+nothing-listed d i place list e z = sym (ap (λ (xs : List ℕ). sets list place (raised (part-start d i) xs)) (no-entries (hard-list (part d i)) (omega (arith, e, z))))
 
 -- before the part i, with what those before it list written, and the next one to be written at the place
 pub record Writing (d : Domain) (old list : List ℕ) (place i : ℕ) : Type 0 where

@@ -11,6 +11,7 @@ use lib.Dec.{ltb}
 use lib.ListN.{length, set, length-set}
 use lib.Seq.{sets}
 use Rattle.numbers.specs.Lists.{having, raised}
+use Rattle.numbers.proofs.Lists.{no-entries}
 use Rattle.numbers.proofs.Selections.{having-none, having-hit, having-miss}
 use Rattle.domain.specs.Domain.{Fair, value-at, slope-at, is-hard, hard-list}
 use Rattle.domain.specs.Domain as domain
@@ -192,8 +193,4 @@ module _ {d : Domain} {bend begin place end : ℕ} {old : List ℕ} where
 
     pub list-done : end ≤ at → list ≡ sets old place (raised begin (hard-list d))
     unfolding raised
-    list-done h = rw (empty (rest d (l .argument)) (omega (arith, l .to-come))) at (l .written)
-      where
-        empty : (xs : List ℕ) → length xs ≤ 0 → xs ≡ []
-        empty [] k = refl
-        empty (y ∷ ys) k = absurd (omega arith)
+    list-done h = rw (no-entries (rest d (l .argument)) (omega (arith, l .to-come))) at (l .written)

@@ -25,6 +25,11 @@ ascending (ascending-cons b c) i zero h l = absurd (not-suc-le-zero h)
 ascending (ascending-cons b c) zero (suc j) h l = at-least c j (omega arith)
 ascending (ascending-cons b c) (suc i) (suc j) h l = ascending c i j (omega arith) (omega arith)
 
+-- a list without entries
+pub no-entries : (xs : List ℕ) → length xs ≤ 0 → xs ≡ []
+no-entries [] h = refl
+no-entries (x ∷ xs) h = absurd (not-suc-le-zero h)
+
 drop-replicate : (n k : ℕ) → drop {A = ℕ} k (replicate n 0) ≡ replicate {A = ℕ} (n - k) 0
 drop-replicate n zero = rw sub-zero
 drop-replicate zero (suc k) = rw zero-sub
