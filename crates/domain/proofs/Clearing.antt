@@ -9,7 +9,7 @@ use native.Mathlib.Nat.{mod-lt, mod-le, add-zero, mul-le-mul-left, le-of-lt}
 use native.Mathlib.Decide.{decLe}
 use native.Mathlib.Omega.{arith}
 use borrow.Author.Tests.{le-ltb}
-use Rattle.numbers.proofs.Congruences.{Congruent, equals, flip, chain, plus, times, cancel, none, remainder, is-remainder}
+use Rattle.numbers.proofs.Congruences.{Congruent, equals, flip, chain, plus, times, cancel, remainder, opposite, is-remainder}
 use Rattle.numbers.proofs.Selections.{having-empty}
 use Rattle.segment.specs.Segment.{Segment, residue, Accepted}
 use Rattle.segment.specs.Promise.{Regular-answer-right, Fine-answer-right}
@@ -18,6 +18,7 @@ use Rattle.segment.specs.declared.RegularAnswer.{RegularAnswer}
 use Rattle.segment.specs.declared.RegularAnswer.the-variants as regular-variants
 use Rattle.segment.specs.declared.FineAnswer.{FineAnswer}
 use Rattle.segment.specs.declared.FineAnswer.the-variants as fine-variants
+use Rattle.segment.proofs.Residues.{residue-lt}
 use Rattle.segment.proofs.Promises as segment
 use Rattle.domain.specs.Domain.{Fair, triangle, shifted, value-at, is-hard, hard-list, spread, covering-step, covering-start, covering-window, covering, regular-verdict, fine-verdict, first-verdict, part-verdict, mark-of}
 use Rattle.domain.specs.declared.part.Domain.{Domain}
@@ -66,10 +67,6 @@ pub residue-by : (s : Segment) (x : ℕ) → 0 < s .modulus → Congruent (s .mo
 unfolding residue shifted
 residue-by s x some = chain (shifted-by (s .modulus) (s .start) some true (s .step * x)) (equals (add-zero (s .start)))
 
-pub residue-below : (s : Segment) (x : ℕ) → 0 < s .modulus → residue s x < s .modulus
-unfolding residue
-residue-below s x some = mod-lt _ some
-
 module _ (d : Domain) (some : 0 < d .modulus) (low : d .slope < d .modulus) where
   -- the covering residue goes with the slope
   covering-residue : (x : ℕ) → Congruent (d .modulus) (residue (covering d) x) (covering-start d + d .slope * x)
@@ -78,14 +75,8 @@ module _ (d : Domain) (some : 0 < d .modulus) (low : d .slope < d .modulus) wher
       (chain (residue-by (covering d) x some)
       (chain (equals (omega arith)) (chain (plus (equals {a = covering-start d} refl) (flip away)) (equals (omega arith)))))
     where
-      step-away : Congruent (d .modulus) (covering-step d + d .slope) 0
-      step-away =
-          unfold covering-step in
-          chain (plus (remainder (d .modulus - d .slope) (d .modulus)) (equals refl))
-          (chain (equals (omega (arith, low))) (none (d .modulus)))
-
       away : Congruent (d .modulus) ((covering-step d + d .slope) * x) (0 * x)
-      away = times x step-away
+      away = unfold covering-step in times x (opposite low)
 
   -- how far the curve has come is at most D
   arc-most : (x : ℕ) → x ≤ d .count → d .size * triangle x ≤ spread d
@@ -100,14 +91,14 @@ module _ (d : Domain) (some : 0 < d .modulus) (low : d .slope < d .modulus) wher
   pub residue-rising : d .falling ≡ false → (x : ℕ) → x ≤ d .count
       → residue (covering d) x ≡ (value-at d x + (spread d - d .size * triangle x)) % d .modulus
   residue-rising e x h =
-      is-remainder (residue-below (covering d) x some)
+      is-remainder (residue-lt (covering d) x some)
       (to-go (d .modulus) _ _ (d .value) (d .slope * x) (spread d) (d .size * triangle x) _ (arc-most x h) (covering-residue x)
       (unfold covering-start in ap (λ (b : Bool). cond b (d .value) ((d .value + spread d) % d .modulus)) e)
       (subst (λ (b : Bool). Congruent (d .modulus) (value-at d x + loss b (d .size * triangle x)) (d .value + d .slope * x + gain b (d .size * triangle x))) e (value-by x)))
 
   pub residue-falling : d .falling ≡ true → (x : ℕ) → residue (covering d) x ≡ (value-at d x + d .size * triangle x) % d .modulus
   residue-falling e x =
-      is-remainder (residue-below (covering d) x some)
+      is-remainder (residue-lt (covering d) x some)
       (gone (d .modulus) _ _ (d .value) (d .slope * x) (spread d) (d .size * triangle x) _ (covering-residue x)
       (unfold covering-start in ap (λ (b : Bool). cond b (d .value) ((d .value + spread d) % d .modulus)) e)
       (subst (λ (b : Bool). Congruent (d .modulus) (value-at d x + loss b (d .size * triangle x)) (d .value + d .slope * x + gain b (d .size * triangle x))) e (value-by x)))
@@ -115,7 +106,7 @@ module _ (d : Domain) (some : 0 < d .modulus) (low : d .slope < d .modulus) wher
   -- where V(x) < w, the covering residue is less than the covering window
   pub covers : (x : ℕ) → x < d .count → value-at d x < d .window → residue (covering d) x < covering-window d
   unfolding covering-window
-  covers x h v = omega (arith, residue-below (covering d) x some, v, under (d .falling) refl)
+  covers x h v = omega (arith, residue-lt (covering d) x some, v, under (d .falling) refl)
     where
       under : (b : Bool) → d .falling ≡ b → residue (covering d) x ≤ value-at d x + spread d
       under false e =

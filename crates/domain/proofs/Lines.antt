@@ -6,13 +6,14 @@ use Prim.Native.Nat.{ℕ, _+_, _-_, _*_, _%_, _<_}
 use native.Mathlib.Nat.{mod-lt}
 use native.Mathlib.Omega.{arith}
 use lib.Dec.{ltb}
-use Rattle.numbers.proofs.Congruences.{Congruent, equals, flip, chain, plus, times, cancel, none, remainder, same}
+use Rattle.numbers.proofs.Congruences.{Congruent, equals, flip, chain, plus, times, cancel, opposite, same}
 use Rattle.numbers.proofs.Selections.{having-same}
 use Rattle.segment.specs.Segment.{Segment, residue, Accepted}
+use Rattle.segment.proofs.Residues.{residue-lt}
 use Rattle.domain.specs.Domain.{Fair, triangle, value-at, is-hard, hard-list, segment-hard-list}
 use Rattle.domain.specs.declared.part.Domain.{Domain}
 use Rattle.domain.proofs.Values.{value-below, shifted-by}
-use Rattle.domain.proofs.Clearing.{residue-by, residue-below}
+use Rattle.domain.proofs.Clearing.{residue-by}
 
 -- the slope is the step's opposite
 abbrev pub line : Segment → Domain
@@ -44,19 +45,13 @@ module _ {s : Segment} (a : Accepted s) where
         size-small = omega arith;
       }
 
-  -- the step and its opposite count for nothing
-  opposite : Congruent (s .modulus) (line s .slope + s .step) 0
-  opposite =
-      chain (plus (remainder (s .modulus - s .step) (s .modulus)) (equals refl))
-      (chain (equals (omega (arith, a .step-below))) (none (s .modulus)))
-
   pub line-value : (x : ℕ) → value-at (line s) x ≡ residue s x
   line-value x =
-      same (value-below (line s) some x) (residue-below s x some)
+      same (value-below (line s) some x) (residue-lt s x some)
       (cancel (s .step * x)
       (chain (plus along (equals {a = s .step * x} refl))
       (chain (equals (omega arith))
-      (chain (plus (equals {a = s .start} refl) (times x opposite))
+      (chain (plus (equals {a = s .start} refl) (times x (opposite (a .step-below))))
       (chain (equals (omega arith)) (flip (residue-by s x some)))))))
     where
       along : Congruent (s .modulus) (value-at (line s) x) (s .start + line s .slope * x)

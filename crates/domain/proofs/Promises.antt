@@ -27,7 +27,7 @@ use Rattle.domain.specs.declared.part.Domain.{Domain}
 use Rattle.domain.specs.declared.DomainAnswer.{DomainAnswer}
 use Rattle.domain.specs.declared.ScanAnswer.{ScanAnswer}
 use Rattle.domain.specs.declared.ScanAnswer.the-variants as scan-variants
-use Rattle.domain.proofs.Values.{shifted-below, shifted-by, square, triangle-double, value-below, slope-below, bend-below, value-next, slope-next}
+use Rattle.domain.proofs.Values.{shifted-below, shifted-by, triangle-twice, value-below, slope-below, bend-below, value-next, slope-next}
 use Rattle.domain.proofs.Clearing.{covers, first-clears, none-listed}
 use Rattle.domain.proofs.Refusals.{decide, unrefused, accepted, refused-number}
 use Rattle.domain.proofs.Answers.{too-few, enough}
@@ -56,7 +56,7 @@ values M c0 c1 s N w some =
       in-range = value-below (domain M c0 c1 s N w) some;
       rising = rising;
       falling = falling;
-      halved = λ x. omega (arith, triangle-double x, square x);
+      halved = triangle-twice;
       slope-in-range = slope-below (domain M c0 c1 s N w) some;
       slope-rising = slope-rising;
       slope-falling = slope-falling;
@@ -155,9 +155,6 @@ doubled-value M a b u v low l p q = same l low (cancel b (chain (halved q) (flip
 
 -- hard in the call's own numbers, and by the definition of values
 module _ (M c0 c1 n N w : ℕ) (some : 0 < M) (x : ℕ) where
-  halves : triangle x + triangle x ≡ x * (x - 1)
-  halves = omega (arith, triangle-double x, square x)
-
   module _ (u : ℕ) (low : u < M) where
     rising-numbers : Congruent M (u + 0) (c0 + c1 * x + n * triangle x)
         → ((x < N) × (u < w)) ↔ ((x < N) × ((v : ℕ) × (v < M) × (v < w) × (2 * v % (2 * M) ≡ (2 * (c0 + c1 * x) + n * (x * (x - 1))) % (2 * M))))
@@ -172,7 +169,7 @@ module _ (M c0 c1 n N w : ℕ) (some : 0 < M) (x : ℕ) where
     )
       where
         twice : 2 * (c0 + c1 * x + n * triangle x) ≡ 2 * (c0 + c1 * x) + n * (x * (x - 1))
-        twice = omega (arith, ap (λ (k : ℕ). n * k) halves)
+        twice = omega (arith, ap (λ (k : ℕ). n * k) (triangle-twice x))
 
     falling-numbers : Congruent M (u + suc n * triangle x) (c0 + c1 * x + 0)
         → ((x < N) × (u < w)) ↔ ((x < N) × ((v : ℕ) × (v < M) × (v < w) × ((2 * v + suc n * (x * (x - 1))) % (2 * M) ≡ 2 * (c0 + c1 * x) % (2 * M))))
@@ -187,7 +184,7 @@ module _ (M c0 c1 n N w : ℕ) (some : 0 < M) (x : ℕ) where
     )
       where
         twice : (v : ℕ) → 2 * (v + suc n * triangle x) ≡ 2 * v + suc n * (x * (x - 1))
-        twice v = omega (arith, ap (λ (k : ℕ). suc n * k) halves)
+        twice v = omega (arith, ap (λ (k : ℕ). suc n * k) (triangle-twice x))
 
 hard-by-numbers : (M c0 c1 : ℕ) (s : ℤ) (N w : ℕ) → 0 < M → (x : ℕ) → Hard (domain M c0 c1 s N w) x ↔ Hard-in-numbers M c0 c1 s N w x
 unfolding Hard-in-numbers value-at is-negative

@@ -73,7 +73,7 @@ shifted-none M v f h = sym (shifted-is M v (omega arith) f 0 h (by f))
 
 -- ---- x(x-1)/2
 
-pub square : (x : ℕ) → x * (x - 1) + x ≡ x * x
+square : (x : ℕ) → x * (x - 1) + x ≡ x * x
 square zero = refl
 square (suc x) =
     let e : suc x - 1 ≡ x = omega arith in
@@ -87,6 +87,9 @@ halves (suc x) = (halves x .0 + x, omega (arith, halves x .1))
 pub triangle-double : (x : ℕ) → triangle x + triangle x + x ≡ x * x
 unfolding triangle
 triangle-double x = omega (arith, halves x .1, square x)
+
+pub triangle-twice : (x : ℕ) → triangle x + triangle x ≡ x * (x - 1)
+triangle-twice x = omega (arith, triangle-double x, square x)
 
 triangle-zero : triangle 0 ≡ 0
 unfolding triangle

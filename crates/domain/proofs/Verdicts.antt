@@ -19,10 +19,10 @@ use Rattle.segment.specs.declared.Verdict.{Verdict}
 use Rattle.segment.specs.declared.Verdict.the-variants.{Clear, Possible}
 use Rattle.segment.proofs.Refusals as segment-refusals
 use Rattle.segment.proofs.Showing.{clear-iff}
-use Rattle.domain.specs.Domain.{Accepted, Fair, triangle, value-at, spread, covering-window, covering, part-start, part-count, part, regular-verdict, fine-verdict, first-verdict, part-verdict, mark-of, marks-from, marks-after}
+use Rattle.domain.specs.Domain.{Accepted, Fair, value-at, spread, covering-window, covering, part-start, part-count, part, regular-verdict, fine-verdict, first-verdict, part-verdict, mark-of, marks-from, marks-after}
 use Rattle.domain.specs.Promise.{Covering-right, Parts-right, Phases-right, Marks-right}
 use Rattle.domain.specs.declared.part.Domain.{Domain}
-use Rattle.domain.proofs.Values.{square, triangle-double, slope-continues, part-continues}
+use Rattle.domain.proofs.Values.{triangle-twice, slope-continues, part-continues}
 use Rattle.domain.proofs.Clearing.{covering-accepted, residue-rising, residue-falling, first-clears, part-clears}
 use Rattle.domain.proofs.Parts.{part-first, part-next, part-last, part-fair, part-value}
 
@@ -44,8 +44,7 @@ covering-right d f =
     spread-is : spread d + spread d ≡ d .size * (d .count * (d .count - 1))
     spread-is =
         unfold spread in
-        let e : triangle (d .count) + triangle (d .count) ≡ d .count * (d .count - 1) = omega (arith, triangle-double (d .count), square (d .count)) in
-        omega (arith, ap (λ (n : ℕ). d .size * n) e)
+        omega (arith, ap (λ (n : ℕ). d .size * n) (triangle-twice (d .count)))
 
 -- of stretches of k numbers one after another, a number is in one only
 not-before : (k i j x : ℕ) → j * k ≤ x → x < i * k + k → j ≤ i

@@ -1,6 +1,6 @@
 -- Numbers that differ by multiples of a modulus: they are added, scaled and taken off each other without opening a remainder, and of two such
 -- numbers one below the modulus is the smaller one. Assumes nothing.
-use mathlib.Core.Path.{_≡_, sym, _∙_, ap}
+use mathlib.Core.Path.{_≡_, refl, sym, _∙_, ap}
 use Prim.Native.Nat.{ℕ, _+_, _*_, _-_, _/_, _%_, _≤_, _<_}
 use native.Mathlib.Nat.{mod-le, mod-eq-of-lt, add-mul-mod-self-right, div-add-mod'}
 use native.Mathlib.Omega.{arith}
@@ -39,6 +39,10 @@ none M = record { over = 0; under = 1; equal = omega arith }
 
 pub remainder : (a M : ℕ) → Congruent M (a % M) a
 remainder a M = record { over = a / M; under = 0; equal = omega (arith, div-add-mod' a M) }
+
+-- a number and its opposite count for nothing
+pub opposite : {M c : ℕ} → c < M → Congruent M ((M - c) % M + c) 0
+opposite {M} {c} h = chain (plus (remainder (M - c) M) (equals {a = c} refl)) (chain (equals (omega arith)) (none M))
 
 -- congruent numbers leave the same remainder
 pub same-remainder : {M a b : ℕ} → Congruent M a b → a % M ≡ b % M
