@@ -3,9 +3,11 @@
 //! caller's memory.
 
 mod c_api;
+mod drawn;
 mod harness;
 mod reference;
 
+use drawn::{one_of, random_count, signed, somewhere, window};
 use harness::{Lent, Random, Run, SEED};
 use reference::{Domain, Segment, LARGEST, LARGEST_CURVE, MOST};
 use std::collections::HashSet;
@@ -250,42 +252,6 @@ fn all_scans(segments: impl IntoIterator<Item = Segment>) -> Result<Tally, Strin
 fn random_domains(own: u64, times: usize, make: impl Fn(&mut Random, usize) -> Domain) -> Result<Tally, String> {
     let mut random = Random(SEED + own);
     all(THROUGH, (0..times).map(|i| make(&mut random, i)))
-}
-
-fn one_of<T: Copy>(random: &mut Random, from: &[T]) -> T {
-    from[random.below(from.len() as u64) as usize]
-}
-
-/// A size with either sign.
-fn signed(random: &mut Random, size: u64) -> i64 {
-    one_of(random, &[size as i64, -(size as i64)])
-}
-
-/// Windows dense and sparse.
-fn window(random: &mut Random, modulus: u64, count: u64) -> u64 {
-    let (even, sparse) = (random.below(modulus + 1), random.below(modulus / count + 1));
-    one_of(random, &[0, 1, modulus, even, sparse, sparse, sparse / 8, sparse / 8])
-}
-
-/// Curves of any size, none, and mostly such that a search may clear the domain or some of its parts: with D below the modulus
-/// divided by the count.
-fn curve(random: &mut Random, modulus: u64, count: u64) -> i64 {
-    let clearing = modulus as u128 * 16 / (count as u128).pow(3);
-    let clearing = random.below(clearing.min(LARGEST_CURVE as u128) as u64 + 1);
-    let any = random.sized(LARGEST_CURVE as u64);
-    let size = one_of(random, &[0, 1, any, clearing, clearing / 8, clearing / 64]);
-    signed(random, size)
-}
-
-/// A random value, slope, curve and window beside what is given.
-fn somewhere(random: &mut Random, modulus: u64, count: u64) -> Domain {
-    let (value, slope) = (random.below(modulus), random.below(modulus));
-    let (curve, window) = (curve(random, modulus, count), window(random, modulus, count));
-    Domain { modulus, value, slope, curve, count, window }
-}
-
-fn random_count(random: &mut Random, eighth: u64) -> u64 {
-    8 * random.sized(eighth)
 }
 
 fn domain(modulus: u64, value: u64, slope: u64, curve: i64, count: u64, window: u64) -> Domain {

@@ -15,6 +15,9 @@ pub const MOST: u64 = 1 << 20;
 /// The size of the largest curve.
 pub const LARGEST_CURVE: i64 = 1 << 20;
 
+/// The places that the job program has for hard arguments.
+pub const PLACES: usize = 4096;
+
 /// The refusal of the table whose conditions are given in its order: the lowest number that applies, 0 where none does.
 pub fn refusal(conditions: &[bool]) -> u32 {
     conditions.iter().position(|&applies| applies).map_or(0, |i| i as u32 + 1)
@@ -246,6 +249,35 @@ impl Domain {
                 2
             }
         })
+    }
+
+    /// Phase 1's verdict, by going through the arguments up to a hard one of the covering segment; nothing where they are more
+    /// than so many.
+    pub fn cleared(&self, through: u64) -> Option<bool> {
+        let covering = self.covering();
+        let (count, through) = (covering.regular_reached().count, through as u128);
+        let possible = (0..count.min(through) as u64).any(|x| covering.residue(x) < covering.window);
+        (possible || count <= through).then_some(!possible)
+    }
+
+    /// The text of the domain's job.
+    pub fn text(&self) -> String {
+        let Domain { modulus, value, slope, curve, count, window } = self;
+        format!("modulus={modulus}\nvalue={value}\nslope={slope}\ncurve={curve}\ncount={count}\nwindow={window}\n")
+    }
+
+    /// What the job program prints for that text; nothing where phase 1's verdict takes more than so many arguments.
+    pub fn printed(&self, through: u64) -> Option<String> {
+        let hard = if self.refusal() == 0 { self.hard() } else { vec![] };
+        let refusal = listing_refusal(self.refusal(), hard.len(), PLACES);
+        if refusal != 0 {
+            return Some(format!("refused={refusal}\n"));
+        }
+        let cleared = self.cleared(through)?;
+        let first = if cleared { "cleared" } else { "possible" };
+        let marks = self.marks(cleared).map(|mark| mark.to_string()).concat();
+        let list: String = hard.iter().map(|argument| format!("argument={argument}\n")).collect();
+        Some(format!("first={first}\nparts={marks}\nlisted={}\n{list}", hard.len()))
     }
 }
 

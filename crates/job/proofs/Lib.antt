@@ -1,0 +1,12 @@
+pub mod Names
+pub mod Steps
+pub mod Signs
+pub mod Decimals
+pub mod Numbers
+pub mod Lines
+pub mod Stages
+pub mod Writings
+pub mod Outputs
+pub mod Digits
+pub mod Renderings
+pub mod Promises

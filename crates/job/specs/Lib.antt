@@ -1,0 +1,4 @@
+pub mod Text
+pub mod Reading
+pub mod Output
+pub mod Promise

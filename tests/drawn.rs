@@ -1,0 +1,44 @@
+//! Domains drawn at random, for the tests of the calls and of the job program.
+
+// Each program uses some of it.
+#![allow(dead_code)]
+
+use crate::harness::Random;
+use crate::reference::{Domain, LARGEST_CURVE};
+
+pub fn one_of<T: Copy>(random: &mut Random, from: &[T]) -> T {
+    from[random.below(from.len() as u64) as usize]
+}
+
+/// A size with either sign.
+pub fn signed(random: &mut Random, size: u64) -> i64 {
+    one_of(random, &[size as i64, -(size as i64)])
+}
+
+/// Windows dense and sparse.
+pub fn window(random: &mut Random, modulus: u64, count: u64) -> u64 {
+    let (even, sparse) = (random.below(modulus + 1), random.below(modulus / count + 1));
+    one_of(random, &[0, 1, modulus, even, sparse, sparse, sparse / 8, sparse / 8])
+}
+
+/// Curves of any size, none, and mostly such that a search may clear the domain or some of its parts: with D below the modulus
+/// divided by the count.
+fn curve(random: &mut Random, modulus: u64, count: u64) -> i64 {
+    let clearing = modulus as u128 * 16 / (count as u128).pow(3);
+    let clearing = random.below(clearing.min(LARGEST_CURVE as u128) as u64 + 1);
+    let any = random.sized(LARGEST_CURVE as u64);
+    let size = one_of(random, &[0, 1, any, clearing, clearing / 8, clearing / 64]);
+    signed(random, size)
+}
+
+/// A random value, slope, curve and window beside what is given.
+pub fn somewhere(random: &mut Random, modulus: u64, count: u64) -> Domain {
+    let (value, slope) = (random.below(modulus), random.below(modulus));
+    let (curve, window) = (curve(random, modulus, count), window(random, modulus, count));
+    Domain { modulus, value, slope, curve, count, window }
+}
+
+/// A count that a domain accepts, up to eight times the given number.
+pub fn random_count(random: &mut Random, eighth: u64) -> u64 {
+    8 * random.sized(eighth)
+}

@@ -1,0 +1,574 @@
+//! Job texts through the built job program, whose path is the first argument: settled and random jobs against the reference,
+//! malformed texts of every kind, texts that arrive in pieces, output that nobody reads. What has to be printed follows from
+//! the numbers that a text was made of, or from how it was spoilt, never from the program.
+
+mod drawn;
+mod harness;
+mod process;
+mod reference;
+mod texts;
+
+use drawn::{one_of, random_count, signed, somewhere};
+use harness::{Random, Run, SEED};
+use process::{ended, piped, piped_after, started, Shown, LIMIT};
+use reference::{Domain, LARGEST, LARGEST_CURVE, MOST, PLACES};
+use std::collections::HashSet;
+use std::fs::{read_dir, File};
+use std::path::{Path, PathBuf};
+use std::process::Child;
+use std::time::Duration;
+use std::{env, fmt, fs, iter, thread};
+use texts::{J, LONGEST};
+
+/// The arguments that the reference goes through at most for the verdict of phase 1: of a random domain, of a chosen one, and
+/// of an example.
+const THROUGH: u64 = 1 << 14;
+const FAR_THROUGH: u64 = 1 << 22;
+const FARTHEST_THROUGH: u64 = 1 << 25;
+
+const P11: Domain = Domain { modulus: 45, value: 0, slope: 0, curve: 1, count: 8, window: 1 };
+
+/// Hard from 2^20 - 4,096 on: as many arguments as there are places, of seven digits each.
+const LONGEST_LIST: Domain = Domain { modulus: MOST, value: 4096, slope: 1, curve: 0, count: MOST, window: 4096 };
+
+/// The bytes of the longest text and of the longest output.
+const LONGEST_TEXT: usize = 165;
+const LONGEST_OUTPUT: usize = 69_674;
+
+/// A job text and what the program has to print.
+struct Case {
+    text: Vec<u8>,
+    output: String,
+}
+
+/// The job of a domain, by the reference; nothing where its verdict of phase 1 takes more than so many arguments.
+fn decided(domain: &Domain, through: u64) -> Option<Case> {
+    Some(Case { text: domain.text().into(), output: domain.printed(through)? })
+}
+
+fn job(domain: Domain) -> Case {
+    decided(&domain, FAR_THROUGH).unwrap_or_else(|| panic!("{domain:?}: too far for the reference"))
+}
+
+/// The domain of a well-formed text: its numbers are read leniently, and then the text has to be theirs.
+fn reading(text: &[u8]) -> Option<Domain> {
+    let text = std::str::from_utf8(text).ok()?;
+    let numbers = text.split('\n').filter_map(|line| line.split_once('=')?.1.parse().ok());
+    let [modulus, value, slope, curve, count, window] = numbers.collect::<Vec<i128>>()[..] else { return None };
+    let field = |number| u64::try_from(number).ok();
+    let domain = Domain {
+        modulus: field(modulus)?,
+        value: field(value)?,
+        slope: field(slope)?,
+        curve: i64::try_from(curve).ok().filter(|&curve| curve != i64::MIN)?,
+        count: field(count)?,
+        window: field(window)?,
+    };
+    (domain.text() == text).then_some(domain)
+}
+
+/// A text that was made such that 8 refuses it.
+fn malformed(text: impl Into<Vec<u8>>) -> Case {
+    let text = text.into();
+    assert!(reading(&text).is_none(), "well formed: {}", quoted(&text));
+    Case { text, output: "refused=8\n".into() }
+}
+
+/// A text that was made in some way, well formed or not; nothing where the reference would have to go too far.
+fn either(text: Vec<u8>) -> Option<Case> {
+    match reading(&text) {
+        Some(domain) => decided(&domain, THROUGH),
+        None => Some(malformed(text)),
+    }
+}
+
+/// The beginning of a text, for a message.
+fn quoted(text: &[u8]) -> String {
+    let beginning = &text[..text.len().min(300)];
+    format!("'{}'{}", beginning.escape_ascii(), if beginning.len() < text.len() { ".." } else { "" })
+}
+
+impl Case {
+    /// Feeds a process in pieces with a pause after each; it has to print the output, and nothing else may be amiss.
+    fn check_process(&self, child: Child, pieces: &[&[u8]], pause: Duration) -> Result<(), String> {
+        let wrong = |what: String| Err(format!("{} bytes {}: {what}", self.text.len(), quoted(&self.text)));
+        let Some(Shown { output, errors, status }) = ended(child, pieces, pause) else {
+            return wrong(format!("no end within {LIMIT:?}"));
+        };
+        let wanted = self.output.as_bytes();
+        if output != wanted {
+            let same = output.iter().zip(wanted).take_while(|(a, b)| a == b).count();
+            let at = wanted[..same].iter().rposition(|&byte| byte == b'\n').map_or(0, |end| end + 1);
+            return wrong(format!("printed {} for {} from byte {at} on", quoted(&output[at..]), quoted(&wanted[at..])));
+        }
+        if !errors.is_empty() {
+            return wrong(format!("wrote {} to standard error", quoted(&errors)));
+        }
+        if !status.success() {
+            return wrong(format!("ended with {status}"));
+        }
+        Ok(())
+    }
+
+    fn check_pieces(&self, program: &str, pieces: &[&[u8]], pause: Duration) -> Result<(), String> {
+        self.check_process(started(&mut piped(program))?, pieces, pause)
+    }
+
+    fn check(&self, program: &str) -> Result<(), String> {
+        self.check_pieces(program, &[&self.text], Duration::ZERO)
+    }
+}
+
+/// How many texts were run, and what had to be printed for them.
+#[derive(Default)]
+struct Tally {
+    texts: usize,
+    cleared: usize,
+    possible: usize,
+    listed: usize,
+    refused: [usize; 8],
+}
+
+impl Tally {
+    fn of(cases: &[Case]) -> Tally {
+        let mut tally = Tally { texts: cases.len(), ..Tally::default() };
+        for Case { output, .. } in cases {
+            if let Some(number) = output.strip_prefix("refused=") {
+                tally.refused[number.trim_end().parse::<usize>().unwrap() - 1] += 1;
+            }
+            tally.cleared += output.starts_with("first=cleared") as usize;
+            tally.possible += output.starts_with("first=possible") as usize;
+            tally.listed += output.matches("argument=").count();
+        }
+        tally
+    }
+
+    fn add(&mut self, other: &Tally) {
+        self.texts += other.texts;
+        self.cleared += other.cleared;
+        self.possible += other.possible;
+        self.listed += other.listed;
+        self.refused.iter_mut().zip(other.refused).for_each(|(sum, refused)| *sum += refused);
+    }
+}
+
+impl fmt::Display for Tally {
+    fn fmt(&self, f: &mut fmt::Formatter) -> fmt::Result {
+        write!(f, "{} texts", self.texts)?;
+        if self.cleared + self.possible != 0 {
+            write!(f, ", {} cleared, {} possible, {} listed", self.cleared, self.possible, self.listed)?;
+        }
+        let refused = (1..).zip(self.refused).filter(|(_, times)| *times != 0);
+        let refused: Vec<String> = refused.map(|(number, times)| format!("{times} by {number}")).collect();
+        if !refused.is_empty() {
+            write!(f, "; refused {}", refused.join(", "))?;
+        }
+        Ok(())
+    }
+}
+
+/// Runs the program on each text, on two at a time.
+fn all(program: &str, cases: &[Case]) -> Result<Tally, String> {
+    let (front, back) = cases.split_at(cases.len() / 2);
+    let each = |cases: &[Case]| cases.iter().try_for_each(|case| case.check(program));
+    thread::scope(|scope| {
+        let front = scope.spawn(move || each(front));
+        each(back).and(front.join().unwrap())
+    })?;
+    Ok(Tally::of(cases))
+}
+
+/// Document 01's examples with a mark that concern domains, and some others: printed by hand, and by the reference.
+fn settled_examples() -> Vec<Case> {
+    let j = "modulus=45\nvalue=44\nslope=31\ncurve=0\ncount=16\nwindow=3\n";
+    let p11 = "first=possible\nparts=22111111\nlisted=2\nargument=0\nargument=1\n";
+    let cleared = "first=cleared\nparts=00000000\nlisted=0\n";
+    let scattered = "first=possible\nparts=22112212\nlisted=3\nargument=3\nargument=14\nargument=23\n";
+    let examples = [
+        (j.into(), "first=possible\nparts=12111111\nlisted=1\nargument=3\n"),
+        (P11.text(), p11),
+        (Domain { curve: -1, ..P11 }.text(), p11),
+        (Domain { value: 1, ..P11 }.text(), cleared),
+        (Domain { value: 17, ..P11 }.text(), "first=possible\nparts=11111111\nlisted=0\n"),
+        (Domain { value: 4, slope: 16, curve: -2, count: 24, window: 2, ..J }.text(), scattered),
+        (Domain { modulus: 2, value: 0, slope: 0, window: 0, ..J }.text(), cleared),
+    ];
+    let both = |(text, output): (String, &str)| {
+        let domain = reading(text.as_bytes()).unwrap();
+        [Case { text: text.into(), output: output.into() }, job(domain)]
+    };
+    examples.into_iter().flat_map(both).collect()
+}
+
+/// The refusal of a job, by hand.
+fn refused(number: u32, domain: Domain) -> Case {
+    Case { text: domain.text().into(), output: format!("refused={number}\n") }
+}
+
+fn accepted(domain: Domain) -> Case {
+    assert_eq!(domain.refusal(), 0, "{domain:?}");
+    job(domain)
+}
+
+/// Each number at the ends of what is accepted, beside them, and where a narrower one would wrap; document 01's examples
+/// without a mark are among them.
+fn ends_of_ranges() -> Vec<Case> {
+    let mut cases = Vec::new();
+    cases.extend([0, 1, LARGEST + 1, 1 << 63, u64::MAX].map(|modulus| refused(1, Domain { modulus, ..J })));
+    for m in [2, 3, 45, LARGEST - 1, LARGEST] {
+        let least = Domain { modulus: m, value: 0, slope: 0, curve: 0, count: 8, window: 0 };
+        cases.extend([least, Domain { value: m - 1, slope: m - 1, window: m, ..least }].map(accepted));
+    }
+    cases.extend([45, 46, (1 << 32) + 31, 1 << 63, u64::MAX].map(|slope| refused(2, Domain { slope, ..J })));
+    cases.extend([45, 46, (1 << 32) + 44, 1 << 63, u64::MAX].map(|value| refused(3, Domain { value, ..J })));
+    cases.extend([0, 1, 4, 7, 9, 12, 15, 17, 1_048_575].map(|count| refused(4, Domain { count, ..J })));
+    cases.extend([1_048_577, 1_048_584, (1 << 32) + 16, 1 << 63].map(|count| refused(4, Domain { count, ..J })));
+    cases.extend([8, 24, 1_048_568, 1_048_576].map(|count| accepted(Domain { count, window: 0, ..J })));
+    cases.extend([46, 90, (1 << 32) + 3, 1 << 63, u64::MAX].map(|window| refused(5, Domain { window, ..J })));
+    cases.extend([0, 1, 44, 45].map(|window| accepted(Domain { window, ..J })));
+    for sign in [1, -1] {
+        let curve = |size: i64| Domain { curve: sign * size, ..J };
+        cases.extend([1, LARGEST_CURVE - 1, LARGEST_CURVE].map(|size| accepted(curve(size))));
+        cases.extend([LARGEST_CURVE + 1, (1 << 32) + 1, i64::MAX].map(|size| refused(6, curve(size))));
+    }
+    cases
+}
+
+/// The largest number that is read on each line and others above what is accepted, and the longest text.
+fn largest_numbers_read() -> Vec<Case> {
+    assert_eq!(LONGEST.text().len(), LONGEST_TEXT);
+    let mut cases: Vec<Case> = [LONGEST, Domain { curve: i64::MAX, ..LONGEST }].map(|domain| refused(1, domain)).into();
+    for number in [u64::MAX, u64::MAX - 1, 1 << 63, (1 << 63) - 1, 10_u64.pow(19), 10_u64.pow(19) - 1] {
+        cases.push(refused(1, Domain { modulus: number, ..J }));
+        cases.push(refused(2, Domain { slope: number, ..J }));
+        cases.push(refused(3, Domain { value: number, ..J }));
+        cases.push(refused(4, Domain { count: number, ..J }));
+        cases.push(refused(5, Domain { window: number, ..J }));
+        let size = number.min(1 << 63) as i64 - 1;
+        cases.extend([size, -size].map(|curve| refused(6, Domain { curve, ..J })));
+    }
+    cases
+}
+
+/// Slopes about each power of ten and of two: 1 is hard, as value and slope make up the modulus.
+fn numbers_of_every_length() -> Vec<Case> {
+    let mut random = Random(SEED + 2);
+    let powers = (0..19).map(|power| 10_u64.pow(power)).chain((0..62).map(|power| 1 << power));
+    let slopes = powers.flat_map(|power| [power - 1, power]).filter(|&slope| slope != 0);
+    let make = |slope| {
+        let most = (1 << random.below(62)).min(LARGEST - slope);
+        let value = 1 + random.below(most);
+        job(Domain { modulus: value + slope, value, slope, curve: 0, count: 8, window: 1 })
+    };
+    slopes.map(make).collect()
+}
+
+/// A job to which just the conditions of a set apply, each a bit; there are two for each set.
+fn of_conditions(set: u32, large: bool) -> Domain {
+    let applies = |number: u32| (set >> number & 1) as u64;
+    let moduli = if large { [LARGEST, LARGEST + 1] } else { [2, 1] };
+    let modulus = moduli[applies(1) as usize];
+    let size = LARGEST_CURVE + applies(6) as i64;
+    Domain {
+        modulus,
+        slope: modulus - 1 + applies(2),
+        value: modulus - 1 + applies(3),
+        count: 8 + applies(4) + applies(7) * PLACES as u64,
+        window: if applies(5) + applies(7) == 0 { 0 } else { modulus + applies(5) },
+        curve: if large { size } else { -size },
+    }
+}
+
+/// Every set of the conditions 1 to 7 in conflict with each other.
+fn sets_of_conditions() -> Vec<Domain> {
+    let sets = (0..1 << 7).map(|set| set << 1);
+    let domains = sets.flat_map(|set| [false, true].map(|large| (set, of_conditions(set, large))));
+    let just = |(set, domain): (u32, Domain)| {
+        let seventh = domain.hard().len() > PLACES;
+        let applying = (1..).zip(domain.conflicts().into_iter().chain([seventh])).filter(|(_, applies)| *applies);
+        assert_eq!(applying.map(|(number, _)| 1 << number).sum::<u32>(), set, "{domain:?}");
+        domain
+    };
+    domains.map(just).collect()
+}
+
+/// The lowest number wins.
+fn every_set_of_refusals() -> Vec<Case> {
+    sets_of_conditions().into_iter().map(job).collect()
+}
+
+/// 8 comes before all of them.
+fn malformed_and_refused() -> Vec<Case> {
+    let spoil = |(i, domain): (usize, &Domain)| {
+        let text = domain.text();
+        let ends = [text.trim_end().into(), text.clone() + "\n", text.clone() + "\0", text.replace('\n', "\r\n")];
+        let numbers = ["modulus=0", "window=+", "curve=00", "count= ", "slope=-"];
+        let name = numbers[i % 5].split_inclusive('=').next().unwrap();
+        [malformed(ends[i % 4].clone()), malformed(text.replace(name, numbers[i % 5]))]
+    };
+    sets_of_conditions().iter().enumerate().flat_map(spoil).collect()
+}
+
+/// The domain with the window at which so many arguments are hard, if there is one.
+fn with_hard(number: usize, domain: Domain) -> Option<Domain> {
+    let mut values: Vec<u64> = (0..domain.count).map(|x| domain.value_at(x)).collect();
+    values.sort();
+    let domain = Domain { window: values[number - 1] + 1, ..domain };
+    (domain.hard().len() == number).then_some(domain)
+}
+
+/// Lists of as many arguments as there are places, of one fewer and one more.
+fn full_lists() -> Vec<Case> {
+    let mut cases: Vec<Case> = [4096, MOST - 1_000_000].map(|value| job(Domain { value, ..LONGEST_LIST })).into();
+    assert!(cases.iter().all(|case| case.output.len() == LONGEST_OUTPUT));
+    cases.push(job(Domain { window: 4095, ..LONGEST_LIST }));
+    cases.extend([4097, 5000, MOST].map(|window| refused(7, Domain { window, ..LONGEST_LIST })));
+    for modulus in [2, 45, LARGEST] {
+        let all = Domain { modulus, window: modulus, ..P11 };
+        cases.extend([4088, 4096].map(|count| job(Domain { count, ..all })));
+        cases.extend([4104, MOST].map(|count| refused(7, Domain { count, ..all })));
+    }
+    let mut random = Random(SEED + 3);
+    for count in [4104, 5000, 8192, 8192, 10_000, 1 << 15, 1 << 15, 1 << 16, 1 << 16, MOST] {
+        let modulus = LARGEST >> random.below(20);
+        let domain = somewhere(&mut random, modulus, count);
+        let about = [PLACES - 1, PLACES, PLACES + 1].into_iter().filter_map(|number| with_hard(number, domain));
+        cases.extend(about.map(job));
+    }
+    cases
+}
+
+/// Arguments and counts of the list about each power of ten.
+fn printed_numbers_of_every_length() -> Vec<Case> {
+    let mut cases = Vec::new();
+    for power in (0..7).map(|power| 10_u64.pow(power)) {
+        // Hard at the power and just before it.
+        let (value, count) = ((MOST + 1 - power) % MOST, power / 8 * 8 + 8);
+        cases.push(job(Domain { value, count, window: 2, ..LONGEST_LIST }));
+        let listed = [power - 1, power, power + 1].into_iter().filter(|&listed| listed <= PLACES as u64);
+        cases.extend(
+            listed.map(|window| job(Domain { modulus: 4096, value: 17, slope: 1, curve: 0, count: 4096, window })),
+        );
+    }
+    cases
+}
+
+/// So many random domains, made of their own seed, with others in the place of those that are too far for the reference.
+fn random_jobs(own: u64, times: usize, through: u64, make: impl Fn(&mut Random) -> Domain) -> Vec<Case> {
+    let mut random = Random(SEED + own);
+    let drawn = iter::from_fn(|| Some(decided(&make(&mut random), through)));
+    drawn.flatten().take(times).collect()
+}
+
+fn random_small_moduli() -> Vec<Case> {
+    random_jobs(4, 700, THROUGH, |random| {
+        let (modulus, count) = (2 + random.below(4096), random_count(random, 32));
+        somewhere(random, modulus, count)
+    })
+}
+
+fn random_moduli_of_every_size() -> Vec<Case> {
+    random_jobs(5, 500, THROUGH, |random| {
+        let (modulus, count) = (1 + random.sized(LARGEST - 1), random_count(random, 64));
+        somewhere(random, modulus, count)
+    })
+}
+
+fn random_large_moduli() -> Vec<Case> {
+    random_jobs(6, 300, THROUGH, |random| {
+        let (modulus, count) = (LARGEST - random.below(LARGEST / 2 + 1), random_count(random, 128));
+        somewhere(random, modulus, count)
+    })
+}
+
+/// From mostly cleared to some hard ones.
+fn realistic_jobs() -> Vec<Case> {
+    random_jobs(7, 24, FAR_THROUGH, |random| {
+        let modulus = (1 << 60) - random.below(1 << 59);
+        let (most, size) = (modulus >> one_of(random, &[29, 18, 14, 11]), random.below(40));
+        let (curve, window) = (signed(random, size), random.below(most));
+        Domain { curve, window, ..somewhere(random, modulus, 1 << 15) }
+    })
+}
+
+fn largest_count() -> Vec<Case> {
+    random_jobs(8, 6, FAR_THROUGH, |random| {
+        let (most, size) = (LARGEST >> one_of(random, &[14, 20, 24]), random.below(4));
+        let (curve, window) = (signed(random, size), random.below(most));
+        Domain { curve, window, ..somewhere(random, LARGEST - 57, MOST) }
+    })
+}
+
+/// Texts whose bytes arrive one by one.
+fn byte_by_byte(program: &str) -> Result<Tally, String> {
+    let mut cases: Vec<Case> = [J, P11, LONGEST].map(job).into();
+    cases.extend([J.text().trim_end(), &(J.text() + "\n"), &(LONGEST.text() + "\n")].map(malformed));
+    for case in &cases {
+        case.check_pieces(program, &case.text.chunks(1).collect::<Vec<_>>(), Duration::from_millis(1))?;
+    }
+    Ok(Tally::of(&cases))
+}
+
+/// J's text in two pieces, cut at every place.
+fn two_pieces(program: &str) -> Result<Tally, String> {
+    let cases: Vec<Case> = (1..J.text().len()).map(|_| job(J)).collect();
+    for (at, case) in (1..).zip(&cases) {
+        case.check_pieces(program, &[&case.text[..at], &case.text[at..]], Duration::from_millis(2))?;
+    }
+    Ok(Tally::of(&cases))
+}
+
+/// A pause before the text, and after it, where then the input ends or goes on.
+fn late_ends(program: &str) -> Result<Tally, String> {
+    let texts = [J.text(), LONGEST.text()].map(String::into_bytes);
+    let more: [&[u8]; 5] = [b"", b"\n", b"\0", b"7", &texts[0]];
+    let mut cases = Vec::new();
+    for (text, more) in texts.iter().flat_map(|text| more.map(|more| (text, more))) {
+        let case = either([&text[..], more].concat()).unwrap();
+        case.check_pieces(program, &[b"", text, more], Duration::from_millis(50))?;
+        cases.push(case);
+    }
+    Ok(Tally::of(&cases))
+}
+
+/// The program ends also where nobody reads its output, with the signal for that and without, and where the output is full or
+/// closed.
+fn unwritable_output(program: &str) -> Result<Tally, String> {
+    let texts = [J.text(), LONGEST_LIST.text(), LONGEST.text(), String::new()];
+    let firsts = ["trap '' PIPE", "exec >/dev/full", "exec >&-"];
+    for text in &texts {
+        for mut command in iter::once(piped(program)).chain(firsts.map(|first| piped_after(first, program))) {
+            let mut child = started(&mut command)?;
+            drop(child.stdout.take());
+            let shown = ended(child, &[text.as_bytes()], Duration::ZERO);
+            shown.ok_or_else(|| format!("{command:?} on {text:?}: no end within {LIMIT:?}"))?;
+        }
+    }
+    Ok(Tally { texts: texts.len() * (1 + firsts.len()), ..Tally::default() })
+}
+
+/// The program ends also where its input cannot be read, or is closed.
+fn unreadable_input(program: &str) -> Result<Tally, String> {
+    let folder = File::open(".").map_err(|why| why.to_string())?;
+    for command in [piped(program).stdin(folder), &mut piped_after("exec <&-", program)] {
+        let shown = ended(started(command)?, &[], Duration::ZERO);
+        shown.ok_or_else(|| format!("{command:?}: no end within {LIMIT:?}"))?;
+    }
+    Ok(Tally { texts: 2, ..Tally::default() })
+}
+
+/// A file of the examples as the program's input: it has to be well formed, and the output the reference's.
+fn example(program: &str, file: &Path) -> Result<Case, String> {
+    let text = fs::read(file).map_err(|why| why.to_string())?;
+    let domain = reading(&text).ok_or("malformed")?;
+    let case = decided(&domain, FARTHEST_THROUGH).ok_or("too far for the reference")?;
+    let input = File::open(file).map_err(|why| why.to_string())?;
+    case.check_process(started(piped(program).stdin(input))?, &[], Duration::ZERO)?;
+    Ok(case)
+}
+
+fn examples(program: &str) -> Result<Tally, String> {
+    let folder = read_dir("examples").map_err(|why| format!("examples: {why}"))?;
+    let files = folder.filter_map(|entry| Some(entry.ok()?.path()));
+    let mut files: Vec<PathBuf> = files.filter(|file| file.extension().is_some_and(|end| end == "job")).collect();
+    files.sort();
+    let named = |file: &PathBuf| example(program, file).map_err(|why| format!("{}: {why}", file.display()));
+    let cases = files.iter().map(named).collect::<Result<Vec<Case>, String>>()?;
+    if cases.is_empty() {
+        return Err("no examples/*.job".into());
+    }
+    Ok(Tally::of(&cases))
+}
+
+const MALFORMED: [(&str, fn() -> Vec<Vec<u8>>); 9] = [
+    ("wrong lines", texts::wrong_lines),
+    ("wrong names", texts::wrong_names),
+    ("wrong numbers", texts::wrong_numbers),
+    ("too large numbers", texts::too_large_numbers),
+    ("wrong ends", texts::wrong_ends),
+    ("no job", texts::no_job),
+    ("more after the text", texts::more_after_the_text),
+    ("texts of a megabyte", texts::texts_of_a_megabyte),
+    ("beginnings and ends", texts::beginnings_and_ends),
+];
+
+const CHANGED: [(&str, fn() -> Vec<Vec<u8>>); 3] = [
+    ("bytes missing or more", texts::bytes_missing_or_more),
+    ("other bytes", texts::other_bytes),
+    ("changed texts", texts::changed_texts),
+];
+
+const JOBS: [(&str, fn() -> Vec<Case>); 13] = [
+    ("settled examples", settled_examples),
+    ("ends of ranges", ends_of_ranges),
+    ("largest numbers read", largest_numbers_read),
+    ("numbers of every length", numbers_of_every_length),
+    ("every set of refusals", every_set_of_refusals),
+    ("malformed and refused", malformed_and_refused),
+    ("full lists", full_lists),
+    ("printed numbers of every length", printed_numbers_of_every_length),
+    ("random small moduli", random_small_moduli),
+    ("random moduli of every size", random_moduli_of_every_size),
+    ("random moduli from 2^61 to 2^62", random_large_moduli),
+    ("count 2^15, moduli about 2^60", realistic_jobs),
+    ("count 2^20", largest_count),
+];
+
+const PROCESSES: [(&str, fn(&str) -> Result<Tally, String>); 6] = [
+    ("byte by byte", byte_by_byte),
+    ("two pieces", two_pieces),
+    ("late ends", late_ends),
+    ("output that cannot be written", unwritable_output),
+    ("input that cannot be read", unreadable_input),
+    ("examples", examples),
+];
+
+/// The tests run, and the texts of them all.
+struct Tests {
+    program: String,
+    run: Run,
+    sum: Tally,
+    different: HashSet<Vec<u8>>,
+}
+
+impl Tests {
+    fn count(&mut self, name: &str, result: Result<Tally, String>) {
+        self.sum.add(result.as_ref().unwrap_or(&Tally::default()));
+        self.run.count(name, result);
+    }
+
+    fn texts(&mut self, name: &str, cases: Vec<Case>) {
+        let result = all(&self.program, &cases);
+        self.count(name, result);
+        self.different.extend(cases.into_iter().map(|case| case.text));
+    }
+
+    fn end(mut self) -> ! {
+        let (sum, different) = (self.sum, self.different.len());
+        let few_refused = sum.refused.iter().any(|&times| times < 10);
+        let enough = different >= 5_000 && sum.cleared >= 300 && sum.possible >= 1_000 && !few_refused;
+        let sum = format!("{sum}; {different} different");
+        self.run.count("as many texts as meant", if enough { Ok(sum) } else { Err(format!("only {sum}")) });
+        self.run.end()
+    }
+}
+
+fn main() {
+    let program = env::args().nth(1).expect("the path of the job program as the first argument");
+    let (run, sum, different) = (Run::start(), Tally::default(), HashSet::new());
+    let mut tests = Tests { program, run, sum, different };
+    for (name, make) in JOBS {
+        tests.texts(name, make());
+    }
+    for (name, make) in MALFORMED {
+        tests.texts(name, make().into_iter().map(malformed).collect());
+    }
+    for (name, make) in CHANGED {
+        tests.texts(name, make().into_iter().filter_map(either).collect());
+    }
+    for (name, test) in PROCESSES {
+        let result = test(&tests.program);
+        tests.count(name, result);
+    }
+    tests.end()
+}
