@@ -11,7 +11,10 @@ use Rattle.segment.specs.Answer.{verdict-at, regular-shown, fine-shown, regular
 use Rattle.domain.specs.Domain.{is-negative, triangle, shifted, value-at, slope-at, is-hard, hard-list, segment-hard-list, spread, covering-step, covering-start, covering-window, part-count, part-start, part, regular-verdict, fine-verdict, first-verdict, part-verdict, mark-of, marks-after}
 use Rattle.domain.specs.Answer.{curve-refusal, overflow, or-else, left-in, reported, domain-answer-with, domain-answer, domain-left, scan-answer-with, scan-answer, scan-left}
 use Rattle.domain.specs.Answer as domain-answers
-use Rattle.examples.specs.Settled.{Example-1, Example-9, Domain-of-10, Example-11, Settled}
+use Rattle.job.specs.Text.{decimal-within, decimal}
+use Rattle.job.specs.Reading.{starts, digits-from, number-from, field-at, unsigned, opposite, signed-from, curve-at, reading}
+use Rattle.job.specs.Output.{word, figures, argument-lines, refused, told, printed, output-with, output-of}
+use Rattle.examples.specs.Settled.{Example-1, Example-9, Example-10, Example-11, Settled}
 
 example-1 : Example-1
 unfolding rows-from expansion zero-padded refusal answer-with answer regular-from regular parts-from fine-from fine
@@ -42,9 +45,9 @@ example-9 =
       left-too-few = λ x. refl;
     }
 
-domain-of-10 : Domain-of-10
-unfolding rows-from expansion regular-from regular parts-from fine-from fine residue segments.refusal configurations-of reached-in reached least-from argument distance verdict-at regular-shown fine-shown regular-answer-with fine-answer-with regular-answer fine-answer having enumerated in-front triangle shifted value-at slope-at is-negative is-hard hard-list spread covering-step covering-start covering-window part-count part-start part regular-verdict fine-verdict first-verdict part-verdict mark-of marks-after curve-refusal domain-answers.refusal overflow or-else left-in reported domain-answer-with domain-answer domain-left
-domain-of-10 = record { answered = refl; left = λ x y. refl }
+example-10 : Example-10
+unfolding rows-from expansion regular-from regular parts-from fine-from fine residue segments.refusal configurations-of reached-in reached least-from argument distance verdict-at regular-shown fine-shown regular-answer-with fine-answer-with regular-answer fine-answer having enumerated in-front triangle shifted value-at slope-at is-negative is-hard hard-list spread covering-step covering-start covering-window part-count part-start part regular-verdict fine-verdict first-verdict part-verdict mark-of marks-after curve-refusal domain-answers.refusal overflow or-else left-in reported domain-answer-with domain-answer domain-left decimal-within decimal starts digits-from number-from field-at unsigned opposite signed-from curve-at reading word figures argument-lines refused told printed output-with output-of
+example-10 = record { prints = refl; read = refl; answered = refl; left = λ x y. refl }
 
 example-11 : Example-11
 unfolding rows-from expansion regular-from regular parts-from fine-from fine residue segments.refusal configurations-of reached-in reached least-from argument distance verdict-at regular-shown fine-shown regular-answer-with fine-answer-with regular-answer fine-answer having enumerated in-front triangle shifted value-at slope-at is-negative is-hard hard-list spread covering-step covering-start covering-window part-count part-start part regular-verdict fine-verdict first-verdict part-verdict mark-of marks-after curve-refusal domain-answers.refusal overflow or-else left-in reported domain-answer-with domain-answer domain-left
@@ -63,6 +66,6 @@ settled =
       p7 = record { by-regular = λ w. refl; by-fine = λ w. refl };
       p8 = record { by-regular = λ w. refl; by-fine = λ w. refl; regular-answers = refl; fine-answers = refl };
       p9 = example-9;
-      p10-domain = domain-of-10;
+      p10 = example-10;
       p11 = example-11;
     }

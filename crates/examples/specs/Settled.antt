@@ -1,4 +1,4 @@
--- Document 01's settled examples marked P, as one statement with a field for each; of P10 the domain, without the job's text. Assumes nothing: these are statements.
+-- Document 01's settled examples marked P, as one statement with a field for each. Assumes nothing: these are statements.
 use mathlib.Core.Path.{_≡_}
 use mathlib.Core.List.{[], _∷_}
 use Prim.Native.Nat.{ℕ}
@@ -15,6 +15,10 @@ use Rattle.segment.specs.declared.FineAnswer.the-variants as fine-variants
 use Rattle.domain.specs.Domain.{segment-hard-list}
 use Rattle.domain.specs.Answer.{scan-answer, scan-left, domain-answer, domain-left}
 use Rattle.domain.specs.declared.ScanAnswer.the-variants as scan-variants
+use Rattle.job.specs.Text.{bytes}
+use Rattle.job.specs.Reading.{reading}
+use Rattle.job.specs.Output.{output-of}
+use Rattle.job.specs.declared.Reading.the-variants.{Read}
 
 -- the expansion of 45 and 14, the call's whole answer, and the counts of its regular and fine configurations
 pub record Example-1 : Type 0 where
@@ -104,8 +108,12 @@ pub record Example-9 : Type 0 where
   pub too-few : scan-answer 45 14 44 16 6 1 ≡ scan-variants.Refused 7
   pub left-too-few : (x : ℕ) → scan-left 45 14 44 16 6 (x ∷ []) ≡ x ∷ []
 
--- the domain of job J, M 45, c0 44, c1 31, s 0, N 16, w 3: possible, parts 12111111, list 3
-pub record Domain-of-10 : Type 0 where
+-- job J, bytes in and bytes out; its domain M 45, c0 44, c1 31, s 0, N 16, w 3
+pub record Example-10 : Type 0 where
+  pub prints : output-of (bytes "modulus=45\nvalue=44\nslope=31\ncurve=0\ncount=16\nwindow=3\n")
+      ≡ bytes "first=possible\nparts=12111111\nlisted=1\nargument=3\n"
+  pub read : reading (bytes "modulus=45\nvalue=44\nslope=31\ncurve=0\ncount=16\nwindow=3\n")
+      ≡ Read (record { modulus = 45; value = 44; slope = 31; curve = pos 0; count = 16; window = 3 })
   pub answered : domain-answer 45 44 31 (pos 0) 16 3 4096
       ≡ record { refusal = 0; first = Possible; marks = 1 ∷ 2 ∷ 1 ∷ 1 ∷ 1 ∷ 1 ∷ 1 ∷ 1 ∷ []; listed = 1 }
   pub left : (x y : ℕ) → domain-left 45 44 31 (pos 0) 16 3 (x ∷ y ∷ []) ≡ 3 ∷ y ∷ []
@@ -130,5 +138,5 @@ pub record Settled : Type 0 where
   pub p7 : Example-7
   pub p8 : Example-8
   pub p9 : Example-9
-  pub p10-domain : Domain-of-10
+  pub p10 : Example-10
   pub p11 : Example-11

@@ -1,11 +1,11 @@
 -- The decimal digits of a number: the last one and the digits of the tenth of it; how many there are; that they are the quotients by powers of ten;
 -- that they tell the number. Assumes nothing.
-use mathlib.Core.Path.{_≡_, refl, sym, ap, ap₂, subst, _∙_}
-use mathlib.Core.Bool.{Bool, true, false, cond}
+use mathlib.Core.Path.{_≡_, refl, sym, ap, ap₂, _∙_}
+use mathlib.Core.Bool.{Bool, true, false}
 use mathlib.Core.List.{List, [], _∷_, _++_, append-assoc, append-nil}
 use mathlib.Core.Logic.{_⊎_, inl, inr, ⊎-elim}
 use Prim.Native.Nat.{ℕ, zero, suc, _+_, _-_, _*_, _/_, _%_, _^_, _≤_, _<_}
-use native.Mathlib.Nat.{not-suc-le-zero, suc-ne-zero, zero-lt-suc, add-zero, pow-suc, div-one, div-lt-self, div-add-mod, mod-lt, mod-eq-of-lt, div-div-eq-div-mul, div-lt-iff-lt-mul, le-div-iff-mul-le, pow-le-pow-right}
+use native.Mathlib.Nat.{not-suc-le-zero, suc-ne-zero, zero-lt-suc, pow-suc, div-one, div-lt-self, mod-eq-of-lt, div-div-eq-div-mul, div-lt-iff-lt-mul, le-div-iff-mul-le, pow-le-pow-right}
 use native.Mathlib.Omega.{arith}
 use lib.Dec.{ltb}
 use lib.ListN.{length, length-append}

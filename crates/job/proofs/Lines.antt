@@ -6,8 +6,8 @@ use Prim.Native.Nat.{ℕ, zero, suc, _+_, _/_, _%_, _^_, _≤_, _<_}
 use native.Mathlib.Nat.{zero-lt-suc}
 use native.Mathlib.Omega.{arith}
 use lib.Dec.{ltb}
-use lib.IntN.{ℤ, pos, negsuc, negℤ, natAbs}
-use lib.ListN.{length, drop, length-append, length-drop}
+use lib.IntN.{ℤ, pos, negsuc, natAbs}
+use lib.ListN.{length, drop}
 use lib.Seq.{drop-drop}
 use borrow.Author.Tests.{lt-ltb, ne-eqb, ltb-true}
 use Rattle.job.specs.Text.{bytes, digit, decimal, signed-decimal, line}
@@ -18,7 +18,7 @@ use Rattle.job.specs.declared.fields.FoundCurve.{FoundCurve}
 use Rattle.job.specs.declared.fields.FoundCurve.the-variants as found-curve
 use Rattle.job.proofs.Decimals.{one-digit, more-digits, by-tenths}
 use Rattle.job.proofs.Names.{starts-itself, begins}
-use Rattle.job.proofs.Numbers.{Read-at, found-nothing, same-number, same-end, after-piece, after-line, number-read, number-reads}
+use Rattle.job.proofs.Numbers.{Read-at, found-nothing, after-piece, after-line, number-read, number-reads}
 use Rattle.job.proofs.Signs.{without-sign, with-minus}
 
 -- ---- names

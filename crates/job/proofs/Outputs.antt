@@ -19,8 +19,7 @@ use Rattle.domain.specs.Promise.{Domain-right, Refused-for}
 use Rattle.domain.specs.Promise.Refused-for.{modulus-outside, slope-outside, value-outside, count-outside, window-outside, curve-outside, too-many}
 use Rattle.domain.proofs.Promises.{promised}
 use Rattle.job.specs.Text.{bytes, decimal, line}
-use Rattle.job.specs.Reading.{reading}
-use Rattle.job.specs.Output.{places, answer-of, hard-of, word, Figures, figures, argument-lines, refused, told, printed, output-with, output-of}
+use Rattle.job.specs.Output.{places, answer-of, hard-of, word, Figures, figures, argument-lines, refused, told, printed, output-with}
 use Rattle.job.specs.declared.Job.{Job}
 use Rattle.job.specs.declared.Reading.{Reading}
 use Rattle.job.specs.declared.Reading.the-variants.{Read, Malformed}

@@ -1,13 +1,12 @@
 -- How a text is read, place by place. At is always a place of the text. specs/Promise.antt says what this amounts to: the text is the
 -- rendering of six numbers, or it is malformed. Assumes nothing: these are definitions.
-use mathlib.Core.Bool.{Bool, true, false, not, _&&_, cond}
+use mathlib.Core.Bool.{Bool, true, false, _&&_, cond}
 use mathlib.Core.List.{List, [], _∷_}
-use Prim.Native.Nat.{ℕ, zero, suc, _+_, _-_, _*_, _^_}
+use Prim.Native.Nat.{ℕ, suc, _+_, _-_, _*_, _^_}
 use lib.Dec.{leb, ltb, eqb}
 use lib.IntN.{ℤ, pos, negℤ}
 use lib.ListN.{length, drop}
-use Rattle.job.specs.Text.{bytes, line-feed, digit}
-use Rattle.job.specs.declared.Job.{Job}
+use Rattle.job.specs.Text.{bytes, line-feed}
 use Rattle.job.specs.declared.Reading.{Reading}
 use Rattle.job.specs.declared.Reading.the-variants.{Read, Malformed}
 use Rattle.job.specs.declared.fields.Found.{Found}

@@ -142,145 +142,113 @@ window-found c = sym (c .before .before .before .field5 .ensures) ∙ c .before 
 past-window : (c : tie.After-known-told6) → reading (text-to-window c) ≡ from-end (text-to-window c) (job-to-window c) (after-window-at c)
 past-window c = past-count (back-to-count c) ∙ ap (λ (f : Found). after-field f (λ n. from-end (text-to-window c) (with-window (job-to-count (back-to-count c)) n))) (window-found c)
 
--- src/lib.rt:46:60
 slice-aggregate-field : tie.Need-slice-aggregate-field
 slice-aggregate-field c = search needs
 
--- src/lib.rt:46:45
 field-requires : tie.Need-field-requires
 field-requires c κs = search needs
 
--- src/lib.rt:46:19
 enum-known-modulus : tie.Need-enum-known-modulus
 enum-known-modulus c = search needs
 
--- src/lib.rt:47:9
 enum-told : tie.Need-enum-told
 enum-told c = search needs
 
--- src/lib.rt:47:9
 returns : tie.Need-returns
 returns c =
     let t = c .before .before .before .before .before .args .text .now in
     sym (from-modulus t ∙ ap (λ (f : Found). after-field f (λ n. from-value t (with-modulus n))) (sym (c .before .before .field .ensures) ∙ c .enum-told .given .1))
 
--- src/lib.rt:49:68
 slice-aggregate-field-2 : tie.Need-slice-aggregate-field-2
 slice-aggregate-field-2 c = search needs
 
--- src/lib.rt:49:41
 field-requires-2 : tie.Need-field-requires-2
 field-requires-2 c κs = field-read (bytes "modulus=") (text-to-modulus (c .before)) 0 (modulus-found (c .before)) .0 .within
 
--- src/lib.rt:49:19
 enum-known-value : tie.Need-enum-known-value
 enum-known-value c = search needs
 
--- src/lib.rt:50:9
 enum-told-2 : tie.Need-enum-told-2
 enum-told-2 c = search needs
 
--- src/lib.rt:50:9
 returns-2 : tie.Need-returns-2
 returns-2 c =
     let p = c .before .before .before .before in
     sym (past-modulus p ∙ ap (λ (f : Found). after-field f (λ n. from-slope (text-to-modulus p) (with-value (job-to-modulus p) n))) (sym (c .before .before .field2 .ensures) ∙ c .enum-told2 .given .1))
 
--- src/lib.rt:52:66
 slice-aggregate-field-3 : tie.Need-slice-aggregate-field-3
 slice-aggregate-field-3 c = search needs
 
--- src/lib.rt:52:41
 field-requires-3 : tie.Need-field-requires-3
 field-requires-3 c κs = field-read (bytes "value=") (text-to-value (c .before)) (after-modulus-at (back-to-modulus (c .before))) (value-found (c .before)) .0 .within
 
--- src/lib.rt:52:19
 enum-known-slope : tie.Need-enum-known-slope
 enum-known-slope c = search needs
 
--- src/lib.rt:53:9
 enum-told-3 : tie.Need-enum-told-3
 enum-told-3 c = search needs
 
--- src/lib.rt:53:9
 returns-3 : tie.Need-returns-3
 returns-3 c =
     let p = c .before .before .before .before in
     sym (past-value p ∙ ap (λ (f : Found). after-field f (λ n. from-curve (text-to-value p) (with-slope (job-to-value p) n))) (sym (c .before .before .field3 .ensures) ∙ c .enum-told3 .given .1))
 
--- src/lib.rt:55:70
 slice-aggregate-curve : tie.Need-slice-aggregate-curve
 slice-aggregate-curve c = search needs
 
--- src/lib.rt:55:45
 curve-requires : tie.Need-curve-requires
 curve-requires c κs = field-read (bytes "slope=") (text-to-slope (c .before)) (after-value-at (back-to-value (c .before))) (slope-found (c .before)) .0 .within
 
--- src/lib.rt:55:24
 enum-known-bend : tie.Need-enum-known-bend
 enum-known-bend c = search needs
 
--- src/lib.rt:56:9
 enum-told-4 : tie.Need-enum-told-4
 enum-told-4 c = search needs
 
--- src/lib.rt:56:9
 returns-4 : tie.Need-returns-4
 returns-4 c =
     let p = c .before .before .before .before in
     sym (past-slope p ∙ ap (λ (f : FoundCurve). after-curve f (λ s. from-count (text-to-slope p) (with-curve (job-to-slope p) s))) (sym (c .before .before .curve .ensures) ∙ c .enum-told4 .given .1))
 
--- src/lib.rt:58:66
 slice-aggregate-field-4 : tie.Need-slice-aggregate-field-4
 slice-aggregate-field-4 c = search needs
 
--- src/lib.rt:58:41
 field-requires-4 : tie.Need-field-requires-4
 field-requires-4 c κs = curve-read (bytes "curve=") (text-to-curve (c .before)) (after-slope-at (back-to-slope (c .before))) (curve-found (c .before)) .0 .within
 
--- src/lib.rt:58:19
 enum-known-count : tie.Need-enum-known-count
 enum-known-count c = search needs
 
--- src/lib.rt:59:9
 enum-told-5 : tie.Need-enum-told-5
 enum-told-5 c = search needs
 
--- src/lib.rt:59:9
 returns-5 : tie.Need-returns-5
 returns-5 c =
     let p = c .before .before .before .before in
     sym (past-curve p ∙ ap (λ (f : Found). after-field f (λ n. from-window (text-to-curve p) (with-count (job-to-curve p) n))) (sym (c .before .before .field4 .ensures) ∙ c .enum-told5 .given .1))
 
--- src/lib.rt:61:59
 slice-aggregate-field-5 : tie.Need-slice-aggregate-field-5
 slice-aggregate-field-5 c = search needs
 
--- src/lib.rt:61:34
 field-requires-5 : tie.Need-field-requires-5
 field-requires-5 c κs = field-read (bytes "count=") (text-to-count (c .before)) (after-curve-at (back-to-curve (c .before))) (count-found (c .before)) .0 .within
 
--- src/lib.rt:61:19
 enum-known-window : tie.Need-enum-known-window
 enum-known-window c = search needs
 
--- src/lib.rt:62:9
 enum-told-6 : tie.Need-enum-told-6
 enum-told-6 c = search needs
 
--- src/lib.rt:62:9
 returns-6 : tie.Need-returns-6
 returns-6 c =
     let p = c .before .before .before .before in
     sym (past-count p ∙ ap (λ (f : Found). after-field f (λ n. from-end (text-to-count p) (with-window (job-to-count p) n))) (sym (c .before .before .field5 .ensures) ∙ c .enum-told6 .given .1))
 
--- src/lib.rt:65:9
 returns-7 : tie.Need-returns-7
 returns-7 c =
     let p = c .before in
     sym (past-window p ∙ rw (lt-ltb (after-window-at p) (length (text-to-window p)) (c .if1 .taken)))
 
--- src/lib.rt:43:1
 returns-8 : tie.Need-returns-8
 returns-8 c =
     let p = c .before in

@@ -1,3 +1,4 @@
+-- `job::fields::curve` meets its contract: the name, and then a signed number. Assumes nothing.
 use mathlib.Core.Path.{sym, _∙_}
 use Rattle.job.specs.Reading.{curve-at}
 use Rattle.job.proofs.Names.{name-within}
@@ -5,26 +6,21 @@ use borrow.Author.Needs.{needs}
 use Rattle.job.proofs.fields.curve.Statement.{statement}
 use Rattle.job.proofs.fields.curve.Tie as tie
 
--- src/fields.rt:154:8
 stands-requires : tie.Need-stands-requires
 stands-requires c κs = search needs
 
--- src/fields.rt:155:29
 add-signed : tie.Need-add-signed
 add-signed c = search needs
 
--- src/fields.rt:155:9
 signed-requires : tie.Need-signed-requires
 signed-requires c κs =
     let a = c .before .before .before .before .args in
     name-within (a .name .now) (a .text .now) (a .at) (search needs) (sym (c .before .stands .ensures) ∙ c .if1 .taken)
 
--- src/fields.rt:155:9
 returns : tie.Need-returns
 unfolding curve-at
 returns c = rw (sym (c .before .before .stands .ensures) ∙ c .before .if1 .taken) (c .signed .ensures)
 
--- src/fields.rt:150:1
 returns-2 : tie.Need-returns-2
 unfolding curve-at
 returns-2 c = rw (sym (c .before .stands .ensures) ∙ c .if1 .left)

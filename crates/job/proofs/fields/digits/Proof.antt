@@ -1,4 +1,5 @@
-use mathlib.Core.Path.{_≡_, refl, sym, _∙_}
+-- `job::fields::digits` meets its contract: each turn takes one more digit, and each return is a case of the definition. Assumes nothing.
+use mathlib.Core.Path.{_≡_, sym, _∙_}
 use Prim.Native.Nat.{_-_}
 use native.Mathlib.Nat.{pos-of-ne-zero}
 use native.Mathlib.Omega.{arith}
@@ -15,85 +16,69 @@ Inv-loop text at first n₀ i₀ n i = digits-from first at (drop at text) ≡ d
 abbrev μ-loop : tie.MeasureT-loop
 μ-loop text at first n₀ i₀ n i = length text - i
 
--- src/fields.rt:54:5
 loop-holds : tie.Need-loop-holds Inv-loop μ-loop
 loop-holds c = search needs
 
--- src/fields.rt:55:17
 shared-slice-read-x : tie.Need-shared-slice-read-x Inv-loop μ-loop
 shared-slice-read-x c = search needs
 
--- src/fields.rt:57:33
 add-t12 : tie.Need-add-t12 Inv-loop μ-loop
 add-t12 c = search needs
 
--- src/fields.rt:57:13
 returns : tie.Need-returns Inv-loop μ-loop
 returns c =
     let t = c .before .before in
     let l = t .before .loop in
     sym (l .inv ∙ line-ends (l .n) (l .i) (t .before .before .args .text .now) (t .loop-test .taken) (c .if1 .taken))
 
--- src/fields.rt:60:13
 returns-2 : tie.Need-returns-2 Inv-loop μ-loop
 returns-2 c =
     let t = c .before .before .before in
     let l = t .before .loop in
     sym (l .inv ∙ below-digits (l .n) (l .i) (t .before .before .args .text .now) (t .loop-test .taken) (c .before .if1 .left) (c .if2 .taken))
 
--- src/fields.rt:63:13
 returns-3 : tie.Need-returns-3 Inv-loop μ-loop
 returns-3 c =
     let t = c .before .before .before .before in
     let l = t .before .loop in
     sym (l .inv ∙ above-digits (l .n) (l .i) (t .before .before .args .text .now) (t .loop-test .taken) (c .before .before .if1 .left) (c .before .if2 .left) (c .if3 .taken))
 
--- src/fields.rt:67:13
 returns-4 : tie.Need-returns-4 Inv-loop μ-loop
 returns-4 c =
     let t = c .before .before .before .before .before in
     let l = t .before .loop in
     sym (l .inv ∙ zero-in-front (l .n) (l .i) (t .before .before .args .text .now) (t .loop-test .taken) (c .before .before .before .if1 .left) (c .before .before .if2 .left) (c .before .if3 .left) (c .if4 .taken))
 
--- src/fields.rt:69:17
 cast-d : tie.Need-cast-d Inv-loop μ-loop
 cast-d c = search needs
 
--- src/fields.rt:70:13
 sub-if5 : tie.Need-sub-if5 Inv-loop μ-loop
 sub-if5 c = search needs
 
--- src/fields.rt:71:13
 returns-5 : tie.Need-returns-5 Inv-loop μ-loop
 returns-5 c =
     let t = c .before .before .before .before .before .before in
     let l = t .before .loop in
     sym (l .inv ∙ too-large (l .n) (l .i) (t .before .before .args .text .now) (t .loop-test .taken) (c .before .before .before .before .if1 .left) (c .before .before .before .if2 .left) (c .before .before .if3 .left) (pos-of-ne-zero (c .before .if4 .left)) (omega (arith, c .if5 .taken)))
 
--- src/fields.rt:73:13
 mul-n : tie.Need-mul-n Inv-loop μ-loop
 mul-n c = search needs
 
--- src/fields.rt:73:13
 add-n : tie.Need-add-n Inv-loop μ-loop
 add-n c = search needs
 
--- src/fields.rt:74:13
 add-i : tie.Need-add-i Inv-loop μ-loop
 add-i c = search needs
 
--- src/fields.rt:54:5
 loop-less : tie.Need-loop-less Inv-loop μ-loop
 loop-less c = search needs
 
--- src/fields.rt:54:5
 loop-again : tie.Need-loop-again Inv-loop μ-loop
 loop-again c =
     let t = c .before .before .before .before .before .before in
     let l = t .before .loop in
     l .inv ∙ one-more (l .n) (l .i) (t .before .before .args .text .now) (t .loop-test .taken) (c .before .before .before .before .if1 .left) (c .before .before .before .if2 .left) (c .before .before .if3 .left) (pos-of-ne-zero (c .before .if4 .left)) (omega (arith, c .if5 .left))
 
--- src/fields.rt:49:1
 returns-6 : tie.Need-returns-6 Inv-loop μ-loop
 returns-6 c =
     let l = c .before .loop in

@@ -1,27 +1,23 @@
+-- `job::fields::field` meets its contract: the name, and then a number. Assumes nothing.
 use mathlib.Core.Path.{sym, _∙_}
 use Rattle.job.specs.Reading.{field-at}
 use borrow.Author.Needs.{needs}
 use Rattle.job.proofs.fields.field.Statement.{statement}
 use Rattle.job.proofs.fields.field.Tie as tie
 
--- src/fields.rt:101:8
 stands-requires : tie.Need-stands-requires
 stands-requires c κs = search needs
 
--- src/fields.rt:102:29
 add-number : tie.Need-add-number
 add-number c = search needs
 
--- src/fields.rt:102:9
 number-requires : tie.Need-number-requires
 number-requires c κs = search needs
 
--- src/fields.rt:102:9
 returns : tie.Need-returns
 unfolding field-at
 returns c = rw (sym (c .before .before .stands .ensures) ∙ c .before .if1 .taken) (c .number .ensures)
 
--- src/fields.rt:97:1
 returns-2 : tie.Need-returns-2
 unfolding field-at
 returns-2 c = rw (sym (c .before .stands .ensures) ∙ c .if1 .left)

@@ -1,3 +1,4 @@
+-- `job::fields::number` meets its contract: the first digit, and then those after it. Assumes nothing.
 use mathlib.Core.Path.{sym, _∙_}
 use Rattle.job.proofs.Steps.{number-over, first-below, first-above, first-digit}
 use native.Mathlib.Omega.{arith}
@@ -5,41 +6,33 @@ use borrow.Author.Needs.{needs}
 use Rattle.job.proofs.fields.number.Statement.{statement}
 use Rattle.job.proofs.fields.number.Tie as tie
 
--- src/fields.rt:84:9
 returns : tie.Need-returns
 returns c =
     let a = c .before .before .args in
     sym (number-over (a .at) (a .text .now) (c .if1 .taken))
 
--- src/fields.rt:86:13
 shared-slice-read-x : tie.Need-shared-slice-read-x
 shared-slice-read-x c = search needs
 
--- src/fields.rt:88:9
 returns-2 : tie.Need-returns-2
 returns-2 c =
     let a = c .before .before .before .before .args in
     sym (first-below (a .at) (a .text .now) (omega (arith, c .before .before .if1 .left)) (c .if2 .taken))
 
--- src/fields.rt:91:9
 returns-3 : tie.Need-returns-3
 returns-3 c =
     let a = c .before .before .before .before .before .args in
     sym (first-above (a .at) (a .text .now) (omega (arith, c .before .before .before .if1 .left)) (c .before .if2 .left) (c .if3 .taken))
 
--- src/fields.rt:93:18
 add-digits : tie.Need-add-digits
 add-digits c = search needs
 
--- src/fields.rt:93:26
 cast-digits : tie.Need-cast-digits
 cast-digits c = search needs
 
--- src/fields.rt:93:5
 digits-requires : tie.Need-digits-requires
 digits-requires c κs = search needs
 
--- src/fields.rt:80:1
 returns-4 : tie.Need-returns-4
 returns-4 c =
     let t = c .before in

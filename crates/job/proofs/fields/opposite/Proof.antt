@@ -1,3 +1,4 @@
+-- `job::fields::opposite` meets its contract: a size below 2^63 that is not 0. Assumes nothing.
 use mathlib.Core.Path.{sym, ap, _∙_}
 use Prim.Native.Nat.{_^_, _<_}
 use mir.Facts.{toZ-ofZ}
@@ -10,45 +11,37 @@ use borrow.Author.Needs.{needs}
 use Rattle.job.proofs.fields.opposite.Statement.{statement}
 use Rattle.job.proofs.fields.opposite.Tie as tie
 
--- src/fields.rt:125:19
 enum-known-size : tie.Need-enum-known-size
 enum-known-size c = search needs
 
--- src/fields.rt:127:17
 returns : tie.Need-returns
 returns c =
     let s = c .before .before .size .given in
     sym (ap opposite (s .1) ∙ minus-zero (s .0 .0) (s .0 .1 .0) (c .if1 .taken))
 
--- src/fields.rt:130:17
 returns-2 : tie.Need-returns-2
 returns-2 c =
     let s = c .before .before .before .size .given in
     sym (ap opposite (s .1) ∙ opposite-too-large (s .0 .0) (s .0 .1 .0) (pos-of-ne-zero (c .before .if1 .left)) (omega (arith, c .if2 .taken)))
 
--- src/fields.rt:132:32
 cast-t6 : tie.Need-cast-t6
 cast-t6 c = search needs
 
--- src/fields.rt:132:28
 sub-t7 : tie.Need-sub-t7
 sub-t7 c =
     let s = c .before .before .before .size .given in
     let h : s .0 .0 < 2 ^ 63 = omega (arith, c .if2 .left) in
     rw (as-signed (s .0 .0) h) (opposite-fits (s .0 .0) h)
 
--- src/fields.rt:134:29
 enum-told : tie.Need-enum-told
 enum-told c = search needs
 
--- src/fields.rt:121:1
 returns-3 : tie.Need-returns-3
 returns-3 c =
     let s = c .before .before .before .size .given in
     let h : s .0 .0 < 2 ^ 63 = omega (arith, c .if2 .left) in
     rw (as-signed (s .0 .0) h, toZ-ofZ (opposite-fits (s .0 .0) h), +ℤ-idl (negℤ (pos (s .0 .0)))) (sym (ap opposite (s .1) ∙ with-minus (s .0 .0) (s .0 .1 .0) (pos-of-ne-zero (c .before .if1 .left)) h))
 
--- src/fields.rt:121:1
 returns-4 : tie.Need-returns-4
 unfolding opposite
 returns-4 c = sym (ap opposite (c .enum-told .given .1))

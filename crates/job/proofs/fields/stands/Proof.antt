@@ -1,7 +1,6 @@
-use mathlib.Core.Path.{_≡_, refl, sym, _∙_}
-use mathlib.Core.Bool.{true, false}
-use mathlib.Core.List.{List}
-use Prim.Native.Nat.{ℕ, _+_, _-_, _≤_}
+-- `job::fields::stands` meets its contract: each turn compares one byte. Assumes nothing.
+use mathlib.Core.Path.{_≡_, sym, _∙_}
+use Prim.Native.Nat.{_+_, _-_, _≤_}
 use native.Mathlib.Nat.{add-zero, add-assoc}
 use native.Mathlib.Omega.{arith}
 use lib.ListN.{length, drop}
@@ -17,34 +16,27 @@ Inv-loop text at name i₀ i = (at + i ≤ length text) × (starts name (drop at
 abbrev μ-loop : tie.MeasureT-loop
 μ-loop text at name i₀ i = length name - i
 
--- src/fields.rt:36:5
 loop-holds : tie.Need-loop-holds Inv-loop μ-loop
 loop-holds c = (search needs, rw add-zero)
 
--- src/fields.rt:37:12
 sub-if1 : tie.Need-sub-if1 Inv-loop μ-loop
 sub-if1 c = search needs
 
--- src/fields.rt:38:13
 returns : tie.Need-returns Inv-loop μ-loop
 returns c =
     let l = c .before .before .loop in
     let a = c .before .before .before .args in
     sym (l .inv .1 ∙ text-over (a .name .now) (a .text .now) (l .i) (a .at + l .i) (c .before .loop-test .taken) (omega (arith, c .if1 .taken)))
 
--- src/fields.rt:40:17
 add-if2 : tie.Need-add-if2 Inv-loop μ-loop
 add-if2 c = search needs
 
--- src/fields.rt:40:12
 shared-slice-read-if2 : tie.Need-shared-slice-read-if2 Inv-loop μ-loop
 shared-slice-read-if2 c = search needs
 
--- src/fields.rt:40:28
 shared-slice-read-if2-2 : tie.Need-shared-slice-read-if2-2 Inv-loop μ-loop
 shared-slice-read-if2-2 c = search needs
 
--- src/fields.rt:41:13
 returns-2 : tie.Need-returns-2 Inv-loop μ-loop
 returns-2 c =
     let t = c .before .before .before in
@@ -52,15 +44,12 @@ returns-2 c =
     let a = t .before .before .before .args in
     sym (l .inv .1 ∙ byte-differs (a .name .now) (a .text .now) (l .i) (a .at + l .i) (t .before .loop-test .taken) (omega (arith, t .if1 .left)) (c .if2 .taken))
 
--- src/fields.rt:43:13
 add-i : tie.Need-add-i Inv-loop μ-loop
 add-i c = search needs
 
--- src/fields.rt:36:5
 loop-less : tie.Need-loop-less Inv-loop μ-loop
 loop-less c = search needs
 
--- src/fields.rt:36:5
 loop-again : tie.Need-loop-again Inv-loop μ-loop
 loop-again c =
     let t = c .before .before .before in
@@ -68,7 +57,6 @@ loop-again c =
     let a = t .before .before .before .args in
     (omega (arith, t .if1 .left), l .inv .1 ∙ byte-same (a .name .now) (a .text .now) (l .i) (a .at + l .i) (t .before .loop-test .taken) (omega (arith, t .if1 .left)) (c .if2 .left) ∙ rw (add-assoc (a .at) (l .i) 1))
 
--- src/fields.rt:31:1
 returns-3 : tie.Need-returns-3 Inv-loop μ-loop
 returns-3 c =
     let l = c .before .loop in

@@ -1,3 +1,4 @@
+-- `job::fields::unsigned` meets its contract: a size below 2^63. Assumes nothing.
 use mathlib.Core.Path.{sym, ap, _∙_}
 use Prim.Native.Nat.{_^_, _<_}
 use Rattle.job.specs.Reading.{unsigned}
@@ -7,32 +8,26 @@ use borrow.Author.Needs.{needs}
 use Rattle.job.proofs.fields.unsigned.Statement.{statement}
 use Rattle.job.proofs.fields.unsigned.Tie as tie
 
--- src/fields.rt:111:19
 enum-known-size : tie.Need-enum-known-size
 enum-known-size c = search needs
 
--- src/fields.rt:113:17
 returns : tie.Need-returns
 returns c =
     let s = c .before .before .size .given in
     sym (ap unsigned (s .1) ∙ size-too-large (s .0 .0) (s .0 .1 .0) (omega (arith, c .if1 .taken)))
 
--- src/fields.rt:115:28
 cast-t6 : tie.Need-cast-t6
 cast-t6 c = search needs
 
--- src/fields.rt:117:29
 enum-told : tie.Need-enum-told
 enum-told c = search needs
 
--- src/fields.rt:107:1
 returns-2 : tie.Need-returns-2
 returns-2 c =
     let s = c .before .before .size .given in
     let h : s .0 .0 < 2 ^ 63 = omega (arith, c .if1 .left) in
     rw (as-signed (s .0 .0) h) (sym (ap unsigned (s .1) ∙ without-sign (s .0 .0) (s .0 .1 .0) h))
 
--- src/fields.rt:107:1
 returns-3 : tie.Need-returns-3
 unfolding unsigned
 returns-3 c = sym (ap unsigned (c .enum-told .given .1))

@@ -1,9 +1,10 @@
-use mathlib.Core.Path.{_≡_, refl, sym, ap, subst, _∙_}
+-- `job::writing::put` meets its contract: each turn writes one byte. Assumes nothing.
+use mathlib.Core.Path.{_≡_, subst}
 use mathlib.Core.List.{List, []}
 use Prim.Native.Nat.{ℕ, _+_, _-_, _≤_}
 use native.Mathlib.Nat.{add-zero}
 use lib.ListN.{length, drop, drop-of-length-le}
-use Rattle.job.proofs.Writings.{Writing, begun, ended, room, byte-put}
+use Rattle.job.proofs.Writings.{Writing, begun, ended, byte-put}
 use native.Mathlib.Omega.{arith}
 use borrow.Author.Needs.{needs}
 use Rattle.job.proofs.writing.put.Statement.{statement}
@@ -15,34 +16,27 @@ Inv-loop bytes out₀ at i₀ out i = (i ≤ length bytes) × Writing bytes out�
 abbrev μ-loop : tie.MeasureT-loop
 μ-loop bytes out₀ at i₀ out i = length bytes - i
 
--- src/writing.rt:60:5
 loop-holds : tie.Need-loop-holds Inv-loop μ-loop
 loop-holds c = let a = c .args in (search needs, rw (add-zero (a .at)) (begun (a .bytes .now) (a .out .now) (a .at)))
 
--- src/writing.rt:61:23
 shared-slice-read-out : tie.Need-shared-slice-read-out Inv-loop μ-loop
 shared-slice-read-out c = search needs
 
--- src/writing.rt:61:13
 add-out : tie.Need-add-out Inv-loop μ-loop
 add-out c =
     omega (arith, c .before .loop-test .taken, c .before .before .before .pre)
 
--- src/writing.rt:61:9
 slice-write-out : tie.Need-slice-write-out Inv-loop μ-loop
 slice-write-out c =
     let s = c .before .before .before in
     omega (arith, c .before .loop-test .taken, s .pre, c .before .before .loop .inv .1 .length-kept)
 
--- src/writing.rt:62:13
 add-i : tie.Need-add-i Inv-loop μ-loop
 add-i c = search needs
 
--- src/writing.rt:60:5
 loop-less : tie.Need-loop-less Inv-loop μ-loop
 loop-less c = search needs
 
--- src/writing.rt:60:5
 loop-again : tie.Need-loop-again Inv-loop μ-loop
 loop-again c =
     let t = c .before in
@@ -50,15 +44,12 @@ loop-again c =
     let a = t .before .before .args in
     (omega (arith, t .loop-test .taken), byte-put (a .bytes .now) (a .out .now) (l .out) (a .at) (l .i) (t .loop-test .taken) (l .inv .1))
 
--- src/writing.rt:64:5
 add-result : tie.Need-add-result Inv-loop μ-loop
 add-result c = search needs
 
--- src/writing.rt:54:1
 same-length : tie.Need-same-length Inv-loop μ-loop
 same-length c = c .before .loop .inv .1 .length-kept
 
--- src/writing.rt:54:1
 returns : tie.Need-returns Inv-loop μ-loop
 returns c =
     let l = c .before .loop in

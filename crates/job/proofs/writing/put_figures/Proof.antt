@@ -1,3 +1,4 @@
+-- `job::writing::put_figures` meets its contract: each turn writes one mark. Assumes nothing.
 use mathlib.Core.Path.{_≡_, ap, subst}
 use mathlib.Core.List.{List, []}
 use Prim.Native.Nat.{ℕ, _+_, _-_, _≤_}
@@ -16,35 +17,27 @@ Inv-loop marks out₀ at i₀ out i = (i ≤ length marks) × Writing (figures m
 abbrev μ-loop : tie.MeasureT-loop
 μ-loop marks out₀ at i₀ out i = length marks - i
 
--- src/writing.rt:103:5
 loop-holds : tie.Need-loop-holds Inv-loop μ-loop
 loop-holds c = let a = c .args in (search needs, rw (add-zero (a .at)) (begun (figures (a .marks .now)) (a .out .now) (a .at)))
 
--- src/writing.rt:104:28
 shared-slice-read-out : tie.Need-shared-slice-read-out Inv-loop μ-loop
 shared-slice-read-out c = search needs
 
--- src/writing.rt:104:23
 add-out : tie.Need-add-out Inv-loop μ-loop
 add-out c = let h = c .before .before .before .pre .0 (c .before .before .loop .i) in omega (arith, h)
 
--- src/writing.rt:104:13
 add-out-2 : tie.Need-add-out-2 Inv-loop μ-loop
 add-out-2 c = omega (arith, c .before .loop-test .taken, c .before .before .before .pre .1, figures-length (c .before .before .before .args .marks .now))
 
--- src/writing.rt:104:9
 slice-write-out : tie.Need-slice-write-out Inv-loop μ-loop
 slice-write-out c = omega (arith, c .before .loop-test .taken, c .before .before .before .pre .1, figures-length (c .before .before .before .args .marks .now), c .before .before .loop .inv .1 .length-kept)
 
--- src/writing.rt:105:13
 add-i : tie.Need-add-i Inv-loop μ-loop
 add-i c = search needs
 
--- src/writing.rt:103:5
 loop-less : tie.Need-loop-less Inv-loop μ-loop
 loop-less c = search needs
 
--- src/writing.rt:103:5
 loop-again : tie.Need-loop-again Inv-loop μ-loop
 loop-again c =
     let t = c .before in
@@ -52,15 +45,12 @@ loop-again c =
     let a = t .before .before .args in
     (omega (arith, t .loop-test .taken), figure-put (a .marks .now) (a .out .now) (l .out) (a .at) (l .i) (t .loop-test .taken) (l .inv .1))
 
--- src/writing.rt:107:5
 add-result : tie.Need-add-result Inv-loop μ-loop
 add-result c = search needs
 
--- src/writing.rt:96:1
 same-length : tie.Need-same-length Inv-loop μ-loop
 same-length c = c .before .loop .inv .1 .length-kept
 
--- src/writing.rt:96:1
 returns : tie.Need-returns Inv-loop μ-loop
 unfolding figures
 returns c =

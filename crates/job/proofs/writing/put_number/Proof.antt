@@ -1,9 +1,9 @@
-use mathlib.Core.Path.{_≡_, refl, sym, ap, subst, _∙_}
-use mathlib.Core.List.{List, []}
-use Prim.Native.Nat.{ℕ, suc, _+_, _-_, _^_, _≤_, _<_}
+-- `job::writing::put_number` meets its contract: each turn writes one digit. Assumes nothing.
+use mathlib.Core.Path.{_≡_, sym, subst}
+use mathlib.Core.List.{List}
+use Prim.Native.Nat.{ℕ, _-_, _≤_}
 use native.Mathlib.Numerals.{add-one}
 use native.Mathlib.Omega.{arith}
-use lib.ListN.{length}
 use Rattle.job.specs.Text.{decimal}
 use Rattle.job.proofs.Decimals.{some-power, last-digits, last-digits-length, digits-by-powers}
 use Rattle.job.proofs.Writings.{Writing, begun, ended, digit-put}
@@ -17,15 +17,12 @@ Inv-loop n out₀ at left₀ end₀ out left end = (left ≤ 20) × Writing (dec
 abbrev μ-loop : tie.MeasureT-loop
 μ-loop n out₀ at left₀ end₀ out left end = left
 
--- src/writing.rt:74:20
 digits-after-first-requires : tie.Need-digits-after-first-requires Inv-loop μ-loop
 digits-after-first-requires c κs = search needs
 
--- src/writing.rt:74:20
 add-left : tie.Need-add-left Inv-loop μ-loop
 add-left c = search needs
 
--- src/writing.rt:76:5
 loop-holds : tie.Need-loop-holds Inv-loop μ-loop
 loop-holds c =
     let a = c .before .before .args in
@@ -33,53 +30,42 @@ loop-holds c =
     let r = c .digits-after-first .result in
     (omega (arith, f .0), rw (add-one r) (subst (λ (l : List ℕ). Writing (decimal (a .n)) (a .out .now) (a .at) l (a .out .now) (a .at)) (sym (digits-by-powers r (a .n) (f .1) (f .2))) (begun (decimal (a .n)) (a .out .now) (a .at))))
 
--- src/writing.rt:77:16
 sub-left : tie.Need-sub-left Inv-loop μ-loop
 sub-left c = search needs
 
--- src/writing.rt:78:30
 power-requires : tie.Need-power-requires Inv-loop μ-loop
 power-requires c κs = search needs
 
--- src/writing.rt:78:26
 div-out : tie.Need-div-out Inv-loop μ-loop
 div-out c = rw (c .power .ensures) (some-power (c .before .before .loop .left - 1))
 
--- src/writing.rt:78:21
 add-out : tie.Need-add-out Inv-loop μ-loop
 add-out c = search needs
 
--- src/writing.rt:78:20
 cast-out : tie.Need-cast-out Inv-loop μ-loop
 cast-out c = search needs
 
--- src/writing.rt:78:9
 slice-write-out : tie.Need-slice-write-out Inv-loop μ-loop
 slice-write-out c =
     let t = c .before in
     let l = t .before .loop in
     omega (arith, t .loop-test .taken, l .inv .1 .place, l .inv .1 .length-kept, last-digits-length (l .left) (t .before .before .before .before .args .n), t .before .before .before .before .pre)
 
--- src/writing.rt:79:15
 add-end : tie.Need-add-end Inv-loop μ-loop
 add-end c = search needs
 
--- src/writing.rt:76:5
 loop-less : tie.Need-loop-less Inv-loop μ-loop
 loop-less c = search needs
 
--- src/writing.rt:76:5
 loop-again : tie.Need-loop-again Inv-loop μ-loop
 loop-again c =
     let t = c .before in
     let l = t .before .loop in
     (omega (arith, l .inv .0), rw (c .power .ensures) (digit-put (t .before .before .before .before .args .n) (l .left) (t .loop-test .taken) (l .inv .1)))
 
--- src/writing.rt:69:1
 same-length : tie.Need-same-length Inv-loop μ-loop
 same-length c = search needs
 
--- src/writing.rt:69:1
 returns : tie.Need-returns Inv-loop μ-loop
 unfolding last-digits
 returns c =

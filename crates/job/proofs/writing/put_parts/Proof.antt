@@ -1,7 +1,7 @@
 -- `job::writing::put_parts` meets its contract: the name, the marks and the line feed, one after the other. Assumes nothing.
 use mathlib.Core.List.{[], _∷_, _++_}
 use native.Mathlib.Omega.{arith}
-use lib.ListN.{length, length-append}
+use lib.ListN.{length-append}
 use Rattle.job.specs.Text.{bytes, line}
 use Rattle.job.specs.Output.{figures}
 use Rattle.job.proofs.Writings.{Writing, begun, piece-put, ended, room}
