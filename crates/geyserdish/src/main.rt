@@ -1,7 +1,7 @@
 // The job program: reads a job's text from standard input and prints its answer on standard output.
 //
-// It reads to the end of the input, or until it has 4,096 bytes, which is more than any job's text has: the crate job proves that the first
-// 166 bytes decide what is read. A text that is cut off here is thus malformed, as the whole of it is.
+// It reads to the end of the input, or until it has 4,096 bytes, which is more than any job's text has: the crate job proves that these
+// bytes decide what is printed. A read that fails counts as the end of the input, and a write that fails ends the program.
 fn main() {
     let mut input = io::buffer();
     let length = io::read_full(libc::STDIN_FILENO, &mut input);

@@ -1,23 +1,18 @@
 -- The decimal digits of a number: the last one and the digits of the tenth of it; how many there are; that they are the quotients by powers of ten;
 -- that they tell the number. Assumes nothing.
 use mathlib.Core.Path.{_≡_, refl, sym, ap, ap₂, _∙_}
-use mathlib.Core.Bool.{Bool, true, false}
 use mathlib.Core.List.{List, [], _∷_, _++_, append-assoc, append-nil}
-use mathlib.Core.Logic.{_⊎_, inl, inr, ⊎-elim}
+use mathlib.Core.Logic.{_⊎_, inl, inr, ⊎-elim, by-cases}
 use Prim.Native.Nat.{ℕ, zero, suc, _+_, _-_, _*_, _/_, _%_, _^_, _≤_, _<_}
+use native.Mathlib.Decide.{decLt}
 use native.Mathlib.Nat.{not-suc-le-zero, suc-ne-zero, zero-lt-suc, pow-suc, div-one, div-lt-self, mod-eq-of-lt, div-div-eq-div-mul, div-lt-iff-lt-mul, le-div-iff-mul-le, pow-le-pow-right}
 use native.Mathlib.Omega.{arith}
-use lib.Dec.{ltb}
 use lib.ListN.{length, length-append}
-use borrow.Author.Tests.{lt-ltb, le-ltb, ltb-true, ltb-false}
+use borrow.Author.Tests.{lt-ltb, le-ltb}
 use Rattle.job.specs.Text.{digit, decimal-within, decimal}
 
 small-or-not : (n : ℕ) → (n < 10) ⊎ (10 ≤ n)
-small-or-not n = go (ltb n 10) refl
-  where
-    go : (b : Bool) → ltb n 10 ≡ b → (n < 10) ⊎ (10 ≤ n)
-    go true e = inl (ltb-true n 10 e)
-    go false e = inr (ltb-false n 10 e)
+small-or-not n = by-cases (decLt n 10) inl (λ h. inr (omega (arith, h)))
 
 -- ---- the recurrence
 

@@ -8,5 +8,6 @@ pub mod Stages
 pub mod Writings
 pub mod Outputs
 pub mod Digits
+pub mod Texts
 pub mod Renderings
 pub mod Promises

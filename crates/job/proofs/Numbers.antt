@@ -41,8 +41,8 @@ same-end e = ap end-of e
 
 -- ---- where it is read, it stands there
 
--- the text goes on the digits of n to those of m, and a line feed ends them just before the place end
-pub record Goes-on (n at : ℕ) (t : List ℕ) (m end : ℕ) : Type 0 where
+-- the text completes the digits of n to those of m, and a line feed ends them just before the place end
+pub record Completes (n at : ℕ) (t : List ℕ) (m end : ℕ) : Type 0 where
   pub digits : List ℕ
   pub rest : List ℕ
   pub text : t ≡ digits ++ 10 ∷ rest
@@ -58,7 +58,7 @@ and-right : (a b : Bool) → a && b ≡ true → b ≡ true
 and-right true b e = e
 and-right false b e = absurd (false≢true e)
 
-no-digit-more : (n at : ℕ) {m end : ℕ} (x : ℕ) (rest : List ℕ) → x ≡ 10 → n < 2 ^ 64 → Of n (suc at) ≡ Of m end → Goes-on n at (x ∷ rest) m end
+no-digit-more : (n at : ℕ) {m end : ℕ} (x : ℕ) (rest : List ℕ) → x ≡ 10 → n < 2 ^ 64 → Of n (suc at) ≡ Of m end → Completes n at (x ∷ rest) m end
 no-digit-more n at x rest b h e =
     record {
       digits = [];
@@ -70,7 +70,7 @@ no-digit-more n at x rest b h e =
     }
 
 one-digit-more : (n at : ℕ) {m end : ℕ} (x : ℕ) (rest : List ℕ) → 0 < n → 48 ≤ x → x ≤ 57
-    → Goes-on (n * 10 + (x - 48)) (suc at) rest m end → Goes-on n at (x ∷ rest) m end
+    → Completes (n * 10 + (x - 48)) (suc at) rest m end → Completes n at (x ∷ rest) m end
 one-digit-more n at x rest p low high g =
     let d : digit (x - 48) ≡ x = omega arith in
     record {
@@ -91,9 +91,9 @@ abbrev takes-digit : (n x : ℕ) → Bool
 takes-digit n x = is-digit x && ltb 0 n && ltb (n * 10 + (x - 48)) (2 ^ 64)
 
 at-digit : (n at x : ℕ) (xs : List ℕ) {m end : ℕ}
-    → (n * 10 + (x - 48) < 2 ^ 64 → digits-from (n * 10 + (x - 48)) (suc at) xs ≡ Of m end → Goes-on (n * 10 + (x - 48)) (suc at) xs m end)
+    → (n * 10 + (x - 48) < 2 ^ 64 → digits-from (n * 10 + (x - 48)) (suc at) xs ≡ Of m end → Completes (n * 10 + (x - 48)) (suc at) xs m end)
     → (b : Bool) → takes-digit n x ≡ b → cond b (digits-from (n * 10 + (x - 48)) (suc at) xs) Malformed ≡ Of m end
-    → Goes-on n at (x ∷ xs) m end
+    → Completes n at (x ∷ xs) m end
 at-digit n at x xs next true b e =
     let s = and-left (is-digit x && ltb 0 n) (ltb (n * 10 + (x - 48)) (2 ^ 64)) b in
     let d = and-left (is-digit x) (ltb 0 n) s in
@@ -105,17 +105,17 @@ at-digit n at x xs next true b e =
 at-digit n at x xs next false b e = absurd (found-nothing e)
 
 at-byte : (n at x : ℕ) (xs : List ℕ) {m end : ℕ} → n < 2 ^ 64
-    → (n * 10 + (x - 48) < 2 ^ 64 → digits-from (n * 10 + (x - 48)) (suc at) xs ≡ Of m end → Goes-on (n * 10 + (x - 48)) (suc at) xs m end)
+    → (n * 10 + (x - 48) < 2 ^ 64 → digits-from (n * 10 + (x - 48)) (suc at) xs ≡ Of m end → Completes (n * 10 + (x - 48)) (suc at) xs m end)
     → (b : Bool) → eqb x 10 ≡ b
     → cond b (Of n (suc at)) (cond (takes-digit n x) (digits-from (n * 10 + (x - 48)) (suc at) xs) Malformed) ≡ Of m end
-    → Goes-on n at (x ∷ xs) m end
+    → Completes n at (x ∷ xs) m end
 at-byte n at x xs h next true b e = no-digit-more n at x xs (eqb-true x 10 b) h e
 at-byte n at x xs h next false b e = at-digit n at x xs next (takes-digit n x) refl e
 
-goes-on : (n at : ℕ) (t : List ℕ) {m end : ℕ} → n < 2 ^ 64 → digits-from n at t ≡ Of m end → Goes-on n at t m end
+completes : (n at : ℕ) (t : List ℕ) {m end : ℕ} → n < 2 ^ 64 → digits-from n at t ≡ Of m end → Completes n at t m end
 unfolding digits-from
-goes-on n at [] h e = absurd (found-nothing e)
-goes-on n at (x ∷ xs) h e = at-byte n at x xs h (goes-on (n * 10 + (x - 48)) (suc at) xs) (eqb x 10) refl e
+completes n at [] h e = absurd (found-nothing e)
+completes n at (x ∷ xs) h e = at-byte n at x xs h (completes (n * 10 + (x - 48)) (suc at) xs) (eqb x 10) refl e
 
 -- the digits of m and a line feed stand at the front of a text, and end just before the place end
 pub record Stands (at : ℕ) (t : List ℕ) (m end : ℕ) : Type 0 where
@@ -130,7 +130,7 @@ at-first at x xs {m} {end} true b e =
     let high = leb-true x 57 (and-right (leb 48 x) (leb x 57) b) in
     let low = leb-true 48 x (and-left (leb 48 x) (leb x 57) b) in
     let d : digit (x - 48) ≡ x = omega arith in
-    let g = goes-on (x - 48) (suc at) xs (omega arith) e in
+    let g = completes (x - 48) (suc at) xs (omega arith) e in
     let all : x ∷ g .digits ≡ decimal m =
     ap (λ (y : ℕ). y ∷ g .digits) (sym d) ∙ ap (λ (l : List ℕ). l ++ g .digits) (sym (one-digit (x - 48) (omega arith))) ∙ g .decimals in
     record {

@@ -2,6 +2,7 @@
 use mathlib.Core.Path.{_≡_, refl, sym, ap, ap₂, subst, _∙_}
 use mathlib.Core.List.{List, [], _∷_, _++_, List·Memᴰ, List·Memᴰ·head, List·Memᴰ·tail}
 use mathlib.Core.Bool.{Bool, true, false}
+use mathlib.Core.Logic.{_↔_}
 use Prim.Native.Nat.{ℕ, zero, suc, _+_, _*_, _^_, _≤_, _<_}
 use native.Mathlib.Nat.{not-suc-le-zero}
 use native.Mathlib.Omega.{arith}
@@ -15,7 +16,7 @@ use Rattle.segment.specs.declared.Verdict.{Verdict}
 use Rattle.segment.specs.declared.Verdict.the-variants.{Clear, Possible}
 use Rattle.domain.specs.Domain.{domain, part, part-verdict}
 use Rattle.domain.specs.Answer.{domain-answer, domain-left}
-use Rattle.domain.specs.Promise.{Domain-right, Refused-for}
+use Rattle.domain.specs.Promise.{Hard-in-numbers, Lists, Domain-right, Refused-for}
 use Rattle.domain.specs.Promise.Refused-for.{modulus-outside, slope-outside, value-outside, count-outside, window-outside, curve-outside, too-many}
 use Rattle.domain.proofs.Promises.{promised}
 use Rattle.job.specs.Text.{bytes, decimal, line}
@@ -92,11 +93,20 @@ module _ (j : Job) where
       (length-replicate {A = ℕ} places 0)
       (promised .domains (j .modulus) (j .value) (j .slope) (j .curve) (j .count) (j .window) (replicate places 0))
 
+  -- refused as the domain search refuses
+  pub search-refuses : (n : ℕ)
+      → (answer-of j .refusal ≡ suc n) ↔ Refused-for (domain (j .modulus) (j .value) (j .slope) (j .curve) (j .count) (j .window)) places (suc n)
+  search-refuses n =
+      subst
+      (λ (k : ℕ). (answer-of j .refusal ≡ suc n) ↔ Refused-for (domain (j .modulus) (j .value) (j .slope) (j .curve) (j .count) (j .window)) k (suc n))
+      (length-replicate {A = ℕ} places 0)
+      (right .refused n)
+
   -- a number that refuses is at most 7
   pub number-small : (n : ℕ) → answer-of j .refusal ≡ suc n → suc n ≤ 7
-  number-small n e = go (right .refused n .0 e)
+  number-small n e = go (search-refuses n .0 e)
     where
-      go : {m : ℕ} → Refused-for (domain (j .modulus) (j .value) (j .slope) (j .curve) (j .count) (j .window)) (length (replicate {A = ℕ} places 0)) m → m ≤ 7
+      go : {m : ℕ} → Refused-for (domain (j .modulus) (j .value) (j .slope) (j .curve) (j .count) (j .window)) places m → m ≤ 7
       go (modulus-outside a) = omega arith
       go (slope-outside a b c) = omega arith
       go (value-outside a b c d) = omega arith
@@ -114,6 +124,12 @@ module _ (j : Job) where
     hard-in-front =
         let l = right .left e in
         ap (λ (n : ℕ). take n left-of) (right .listed e) ∙ front-is (hard-of j) left-of (omega (arith, l .room, l .places)) (l .front)
+
+    -- they are the hard ones in the job's numbers
+    pub hard-listed : Lists (Hard-in-numbers (j .modulus) (j .value) (j .slope) (j .curve) (j .count) (j .window)) (answer-of j .listed) (hard-of j)
+    hard-listed =
+        subst (Lists (Hard-in-numbers (j .modulus) (j .value) (j .slope) (j .curve) (j .count) (j .window)) (answer-of j .listed)) hard-in-front
+        (right .hard e)
 
     -- the marks are 0, 1 or 2
     pub marks-figures : Figures (answer-of j .marks)

@@ -171,6 +171,7 @@ reading-right =
     record {
       read = λ t j. (read-stands t j, λ p. stands-read t j (p .0) (p .1));
       malformed = λ t. (λ e j r s. nothing-read (sym e ∙ stands-read t j r s), no-job t);
+      numbers = λ j. (refl, refl);
       short = rendering-short;
       front-decides = front-decides;
     }

@@ -8,7 +8,7 @@ use Rattle.domain.specs.Domain.{domain, hard-list}
 use Rattle.domain.specs.Answer.{domain-answer}
 use Rattle.domain.specs.declared.DomainAnswer.{DomainAnswer}
 use Rattle.job.specs.Text.{bytes, digit, decimal, line}
-use Rattle.job.specs.Reading.{reading}
+use Rattle.job.specs.Reading.{reading, reading-refusal}
 use Rattle.job.specs.declared.Job.{Job}
 use Rattle.job.specs.declared.Reading.{Reading}
 use Rattle.job.specs.declared.Reading.the-variants.{Read, Malformed}
@@ -56,7 +56,7 @@ told first marks arguments =
     (line (bytes "listed=") (decimal (length arguments))
     (argument-lines arguments)))
 
--- what is printed of a job that a number refuses, or 0 does not: its number alone, or what the search found
+-- what is printed of a job: where a number refuses it, that number alone; where it is 0 and does not, what the search found
 unfoldable pub printed : (number : ℕ) → Job → List ℕ
 printed zero j = told (answer-of j .first) (answer-of j .marks) (hard-of j)
 printed (suc n) j = refused (suc n)
@@ -64,7 +64,7 @@ printed (suc n) j = refused (suc n)
 -- what is printed of a job, or of a text that is none
 unfoldable pub output-with : Reading → List ℕ
 output-with (Read j) = printed (answer-of j .refusal) j
-output-with Malformed = refused 8
+output-with Malformed = refused (reading-refusal Malformed)
 
 -- what is printed of a text
 unfoldable pub output-of : (text : List ℕ) → List ℕ

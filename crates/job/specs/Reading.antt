@@ -1,5 +1,5 @@
--- How a text is read, place by place. At is always a place of the text. specs/Promise.antt says what this amounts to: the text is the
--- rendering of six numbers, or it is malformed. Assumes nothing: these are definitions.
+-- How a text is read, place by place; `at` is a place of the text, and `rest` the text from there on. specs/Promise.antt says what this
+-- amounts to: the text is the rendering of six numbers in range, or it is malformed. Assumes nothing: these are definitions.
 use mathlib.Core.Bool.{Bool, true, false, _&&_, cond}
 use mathlib.Core.List.{List, [], _∷_}
 use Prim.Native.Nat.{ℕ, suc, _+_, _-_, _*_, _^_}
@@ -24,15 +24,15 @@ starts [] t = true
 starts (x ∷ xs) [] = false
 starts (x ∷ xs) (y ∷ ys) = cond (eqb y x) (starts xs ys) false
 
--- the text goes on a number that begins with so much: digits up to a line feed, none of them after a 0 in front, below 2^64
-unfoldable pub digits-from : (so-far at : ℕ) → (text : List ℕ) → Found
+-- the rest continues a number of which so much was read: digits up to a line feed, none of them after a 0 in front, below 2^64
+unfoldable pub digits-from : (so-far at : ℕ) → (rest : List ℕ) → Found
 digits-from n at [] = found.Malformed
 digits-from n at (x ∷ xs) =
     cond (eqb x line-feed) (found.Of n (suc at))
     (cond (is-digit x && ltb 0 n && ltb (n * 10 + (x - 48)) (2 ^ 64)) (digits-from (n * 10 + (x - 48)) (suc at) xs) found.Malformed)
 
 -- a number of at least one digit and a line feed
-unfoldable pub number-from : (at : ℕ) → (text : List ℕ) → Found
+unfoldable pub number-from : (at : ℕ) → (rest : List ℕ) → Found
 number-from at [] = found.Malformed
 number-from at (x ∷ xs) = cond (is-digit x) (digits-from (x - 48) (suc at) xs) found.Malformed
 
@@ -81,3 +81,8 @@ reading t =
     after-field (field-at (bytes "window=") e t) (λ window end.
     cond (ltb end (length t)) Malformed
     (Read (record { modulus = modulus; value = value; slope = slope; curve = curve; count = count; window = window }))))))))
+
+-- the number of a reading's refusal; 0 where there is none
+abbrev pub reading-refusal : Reading → ℕ
+reading-refusal (Read j) = 0
+reading-refusal Malformed = 8

@@ -23,8 +23,10 @@ const FIRST_DIGIT: u8 = 48;
 
 const LAST_DIGIT: u8 = 57;
 
+// 2^64 - 1
 const LARGEST: u64 = 18446744073709551615;
 
+// 2^63 - 1
 const LARGEST_SIZE: u64 = 9223372036854775807;
 
 // Whether a name stands in a text from a place on.
@@ -45,7 +47,7 @@ fn stands(text: &[u8], at: usize, name: &[u8]) -> bool
     true
 }
 
-// The digits and the line feed that go on a number after its first digit.
+// The digits after a number's first one, and its line feed.
 fn digits(text: &[u8], at: usize, first: u64) -> Found
     ensures { λ r. ⌜ r ≡ digits-from first at (drop at (now (text .entry))) ⌝ }
 {

@@ -36,7 +36,7 @@ pub enum Reading {
     Malformed,
 }
 
-// Reads a job: no space, no sign but a minus before a curve that is not 0, no zero in front of another digit, numbers below 2^64, a curve's
+// Reads a job: no space, no sign but a minus before a curve that is not 0, no leading zero but in 0 itself, numbers below 2^64, a curve's
 // size below 2^63, nothing after the sixth line feed.
 pub fn read_job(text: &[u8]) -> Reading
     ensures { λ r. ⌜ r ≡ reading (now (text .entry)) ⌝ }
