@@ -1,1 +1,1 @@
-// Document 01's examples that are to be proved, as one statement. No function.
+// The examples that document 01 marks P, proved as one statement. No function.
