@@ -4,7 +4,6 @@ pub mod Signs
 pub mod Decimals
 pub mod Numbers
 pub mod Lines
-pub mod Stages
 pub mod Writings
 pub mod Outputs
 pub mod Digits

@@ -24,7 +24,6 @@ use Rattle.job.specs.declared.fields.FoundCurve.{FoundCurve}
 use Rattle.job.specs.declared.fields.FoundCurve.the-variants as found-curve
 use Rattle.job.proofs.Decimals.{few-digits}
 use Rattle.job.proofs.Lines.{field-read, field-reads, curve-read, curve-reads}
-use Rattle.job.proofs.Stages.{from-end}
 
 -- ---- the two cases of a reading
 
@@ -36,6 +35,10 @@ nothing-read : {j : Job} → Malformed ≡ Read j → ⊥
 nothing-read e = false≢true (ap was-read e)
 
 module _ (t : List ℕ) (j : Job) where
+  -- what is read after the last line: a job, where nothing is left
+  abbrev from-end : Job → (end : ℕ) → Reading
+  from-end k end = cond (ltb end (length t)) Malformed (Read k)
+
   -- ---- what is read stands there
 
   -- where a job is read from a field on, the field's line stands there, and the job is read from its end on
@@ -56,7 +59,7 @@ module _ (t : List ℕ) (j : Job) where
       go found-curve.Malformed f e = absurd (nothing-read e)
 
   -- nothing stands after the last line
-  nothing-after : (k : Job) (end : ℕ) → from-end t k end ≡ Read j → (k ≡ j) × (drop end t ≡ [])
+  nothing-after : (k : Job) (end : ℕ) → from-end k end ≡ Read j → (k ≡ j) × (drop end t ≡ [])
   nothing-after k end e = go (ltb end (length t)) refl e
     where
       go : (b : Bool) → ltb end (length t) ≡ b → cond b Malformed (Read k) ≡ Read j → (k ≡ j) × (drop end t ≡ [])
@@ -107,7 +110,7 @@ module _ (t : List ℕ) (j : Job) where
       let r = curve-reads name t rest at s h e in
       ap (λ (f : FoundCurve). after-curve f next) (r .1) ∙ then (r .0) (r .2)
 
-  ends-there : (end : ℕ) → drop end t ≡ [] → from-end t j end ≡ Read j
+  ends-there : (end : ℕ) → drop end t ≡ [] → from-end j end ≡ Read j
   ends-there end e = rw (le-ltb end (length t) (omega (arith, ap length e, length-drop end t)))
 
   stands-read : In-range j → t ≡ rendering j → reading t ≡ Read j

@@ -1,6 +1,6 @@
 -- The definitions of the text and of what is printed, written out in bytes. Assumes nothing.
-use mathlib.Core.Path.{_≡_, refl}
-use Rattle.job.specs.Text.{signed-decimal, rendering, In-range}
+use mathlib.Core.Path.{refl}
+use Rattle.job.specs.Text.{signed-decimal, rendering}
 use Rattle.job.specs.Output.{word, figures, argument-lines, refused, told}
 use Rattle.job.specs.Promise.{Text-right}
 

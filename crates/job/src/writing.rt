@@ -8,6 +8,7 @@ ghost use lib.Seq.{sets};
 ghost use Rattle.job.specs.Text.{bytes, decimal, line};
 ghost use Rattle.job.specs.Output.{word, Figures, figures, argument-lines, told};
 
+// 10^0 to 10^19, by which decimal numbers are written.
 const POWERS: [u64; 20] = [
     1,
     10,
@@ -52,6 +53,7 @@ fn digits_after_first(n: u64) -> usize
     19
 }
 
+// Bytes as they are.
 fn put(bytes: &[u8], out: &mut [u8], at: usize) -> usize
     requires { ⌜ at + length (now bytes) ≤ length (now out) ⌝ }
     ensures { λ r. ⌜ r ≡ at + length (now (bytes .entry)) ⌝ }
@@ -107,6 +109,7 @@ fn put_figures(marks: &[u8], out: &mut [u8], at: usize) -> usize
     at + i
 }
 
+// An argument as a number of 64 bits.
 fn wide(x: u32) -> u64
     ensures { λ r. ⌜ r ≡ x ⌝ }
 {
