@@ -20,6 +20,7 @@ use Rattle.domain.specs.Promise.{Hard-in-numbers, Lists, Domain-right, Refused-
 use Rattle.domain.specs.Promise.Refused-for.{modulus-outside, slope-outside, value-outside, count-outside, window-outside, curve-outside, too-many}
 use Rattle.domain.proofs.Promises.{promised}
 use Rattle.job.specs.Text.{bytes, decimal, line}
+use Rattle.job.specs.Reading.{reading-refusal}
 use Rattle.job.specs.Output.{places, answer-of, hard-of, word, Figures, figures, argument-lines, refused, told, printed, output-with}
 use Rattle.job.specs.declared.Job.{Job}
 use Rattle.job.specs.declared.Reading.{Reading}
@@ -179,7 +180,7 @@ by-refusal P (suc k) some none = some k refl
 
 pub output-short : (r : Reading) → length (output-with r) ≤ 69674
 unfolding output-with
-output-short Malformed = omega (arith, refused-short 8 (omega arith))
+output-short Malformed = omega (arith, refused-short (reading-refusal Malformed) (omega arith))
 output-short (Read j) =
     by-refusal (length (output-with (Read j)) ≤ 69674) (answer-of j .refusal)
     (λ n e. omega (arith, ap length (output-refused j n e), refused-short (suc n) (omega (arith, number-small j n e))))
