@@ -1,5 +1,5 @@
--- The decimal digits of a number: the last one and the digits of the tenth of it; how many there are; that they are the quotients by powers of ten;
--- that they tell the number. Assumes nothing.
+-- The decimal digits of a number: the last one and the digits of the tenth of it; that they are its quotients by powers of ten; how many there
+-- are. Assumes nothing.
 use mathlib.Core.Path.{_≡_, refl, sym, ap, ap₂, _∙_}
 use mathlib.Core.List.{List, [], _∷_, _++_, append-assoc, append-nil}
 use mathlib.Core.Logic.{_⊎_, inl, inr, ⊎-elim, by-cases}

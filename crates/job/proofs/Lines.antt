@@ -18,7 +18,7 @@ use Rattle.job.specs.declared.fields.FoundCurve.{FoundCurve}
 use Rattle.job.specs.declared.fields.FoundCurve.the-variants as found-curve
 use Rattle.job.proofs.Decimals.{one-digit, more-digits, by-tenths}
 use Rattle.job.proofs.Names.{starts-itself, begins}
-use Rattle.job.proofs.Numbers.{Read-at, found-nothing, after-piece, after-line, number-read, number-reads}
+use Rattle.job.proofs.Numbers.{found-nothing, after-piece, after-line, number-read, number-reads}
 use Rattle.job.proofs.Signs.{without-sign, with-minus}
 
 -- ---- names
@@ -34,9 +34,10 @@ pub record Line-at (at : ℕ) (t name written : List ℕ) (end : ℕ) : Type 0 w
   pub text : drop at t ≡ line name written (drop end t)
   pub within : end ≤ length t
 
-in-line : (name t : List ℕ) (at : ℕ) {n end : ℕ} → starts name (drop at t) ≡ true → Read-at (at + length name) t n end
-    → Line-at at t name (decimal n) end
-in-line name t at e r = record { text = named name t at e ∙ ap (λ (l : List ℕ). name ++ l) (r .text); within = r .within }
+-- a name, and then what is written
+in-line : (name written t : List ℕ) (at : ℕ) {end : ℕ} → starts name (drop at t) ≡ true
+    → drop (at + length name) t ≡ written ++ 10 ∷ drop end t → end ≤ length t → Line-at at t name written end
+in-line name written t at e w h = record { text = named name t at e ∙ ap (λ (l : List ℕ). name ++ l) w; within = h }
 
 pub field-read : (name t : List ℕ) (at : ℕ) {n end : ℕ} → field-at name at t ≡ found.Of n end
     → Line-at at t name (decimal n) end × (n < 2 ^ 64)
@@ -46,7 +47,7 @@ field-read name t at {n} {end} e = go (starts name (drop at t)) refl e
     go : (b : Bool) → starts name (drop at t) ≡ b
         → cond b (number-from (at + length name) (drop (at + length name) t)) found.Malformed ≡ found.Of n end
         → Line-at at t name (decimal n) end × (n < 2 ^ 64)
-    go true b k = let r = number-read (at + length name) t k in (in-line name t at b r, r .fits)
+    go true b k = let r = number-read (at + length name) t k in (in-line name (decimal n) t at b (r .text) (r .within), r .fits)
     go false b k = absurd (found-nothing k)
 
 -- where a line stands, its end, and what follows
@@ -137,7 +138,7 @@ curve-read name t at {s} {end} e = go (starts name (drop at t)) refl e
         → Line-at at t name (signed-decimal s) end × (natAbs s < 2 ^ 63)
     go true b k =
         let r = signed-read (at + length name) t k in
-        (record { text = named name t at b ∙ ap (λ (l : List ℕ). name ++ l) (r .text); within = r .within }, r .fits)
+        (in-line name (signed-decimal s) t at b (r .text) (r .within), r .fits)
     go false b k = absurd (no-curve k)
 
 -- digits do not begin with a minus sign

@@ -8,7 +8,7 @@ use native.Mathlib.Omega.{arith}
 use lib.ListN.{length, getD, drop, set, length-set, length-append}
 use lib.Seq.{sets, length-sets, drop-cons}
 use Rattle.numbers.proofs.Selections.{written-after}
-use Rattle.job.specs.Text.{bytes, decimal, line}
+use Rattle.job.specs.Text.{bytes, digit, decimal, line}
 use Rattle.job.specs.Output.{figures, argument-lines}
 use Rattle.job.proofs.Decimals.{last-digits}
 
@@ -55,20 +55,24 @@ module _ {whole old : List ℕ} {at : ℕ} {now : List ℕ} {end : ℕ} where
 
 -- ---- one turn of each loop
 
--- bytes, one after the other
+-- a list that is written entry by entry, each as its byte
+entry-put : (written : List ℕ → List ℕ) (byte : ℕ → ℕ) → ((x : ℕ) (xs : List ℕ) → written (x ∷ xs) ≡ byte x ∷ written xs)
+    → (xs old now : List ℕ) (at i : ℕ) → i < length xs → Writing (written xs) old at (written (drop i xs)) now (at + i)
+    → Writing (written xs) old at (written (drop (i + 1) xs)) (set now (at + i) (byte (getD xs i 0))) (at + (i + 1))
+entry-put written byte each xs old now at i h w =
+    rw (add-one i, add-suc at i, sym (add-one (at + i)))
+    (wrote (subst (λ (l : List ℕ). Writing (written xs) old at l now (at + i)) (ap written (drop-cons xs i 0 h) ∙ each (getD xs i 0) (drop (suc i) xs)) w))
+
+-- bytes as they are
 pub byte-put : (xs old now : List ℕ) (at i : ℕ) → i < length xs → Writing xs old at (drop i xs) now (at + i)
     → Writing xs old at (drop (i + 1) xs) (set now (at + i) (getD xs i 0)) (at + (i + 1))
-byte-put xs old now at i h w =
-    rw (add-one i, add-suc at i, sym (add-one (at + i)))
-    (wrote (subst (λ (l : List ℕ). Writing xs old at l now (at + i)) (drop-cons xs i 0 h) w))
+byte-put = entry-put (λ xs. xs) (λ x. x) (λ x xs. refl)
 
 -- marks, a digit each
 pub figure-put : (marks old now : List ℕ) (at i : ℕ) → i < length marks → Writing (figures marks) old at (figures (drop i marks)) now (at + i)
     → Writing (figures marks) old at (figures (drop (i + 1) marks)) (set now (at + i) (48 + getD marks i 0)) (at + (i + 1))
 unfolding figures
-figure-put marks old now at i h w =
-    rw (add-one i, add-suc at i, sym (add-one (at + i)))
-    (wrote (subst (λ (l : List ℕ). Writing (figures marks) old at (figures l) now (at + i)) (drop-cons marks i 0 h) w))
+figure-put = entry-put figures digit (λ m ms. refl)
 
 pub figures-length : (marks : List ℕ) → length (figures marks) ≡ length marks
 unfolding figures
