@@ -1,7 +1,8 @@
 -- What is left in memory after a refusal and after an answer. Assumes nothing.
 use mathlib.Core.Path.{_≡_, refl, sym}
 use mathlib.Core.List.{List, [], _∷_}
-use Prim.Native.Nat.{ℕ, zero, suc}
+use Prim.Native.Nat.{ℕ}
+use Rattle.numbers.proofs.Checklists.{unrefused-new, refused-old}
 use Rattle.expansion.specs.declared.Table.{Table}
 use Rattle.expansion.specs.declared.Answer.{Answer}
 use Rattle.segment.specs.declared.Regular.{Regular}
@@ -14,20 +15,16 @@ use Rattle.segment.specs.Answer.{regular-refusal, fine-refusal}
 use Rattle.domain.specs.declared.ScanAnswer.{ScanAnswer}
 use Rattle.domain.specs.declared.ScanAnswer.the-variants as scan-variants
 use Rattle.domain.specs.declared.DomainAnswer.{DomainAnswer}
-use Rattle.domain.specs.Answer.{scan-refusal}
-use Rattle.c_api.specs.Memory.{unless-refused, Delivered, verdict-number, regular-memory, fine-memory, scan-memory, marks-memory, domain-memory}
-
-unchanged : {A : Type 0} (number : ℕ) (old answered : A) → (number ≡ 0 → ⊥) → old ≡ unless-refused number old answered
-unfolding unless-refused
-unchanged zero old answered h = absurd (h refl)
-unchanged (suc n) old answered h = refl
+use Rattle.domain.specs.declared.DomainAnswer.the-variants as domain-variants
+use Rattle.segment.specs.declared.Verdict.{Verdict}
+use Rattle.domain.specs.Answer.{scan-refusal, domain-refusal}
+use Rattle.c_api.specs.Memory.{Delivered, verdict-number, regular-memory, fine-memory, scan-memory, domain-memory}
 
 pub refused : (e : Answer) {old : Table} → (e .refusal ≡ 0 → ⊥) → Delivered e (e .refusal) old old
-refused e {old} h = record { returned = refl; left = unchanged (e .refusal) old (e .table) h }
+refused e {old} h = record { returned = refl; left = sym (refused-old (e .refusal) (e .table) old h) }
 
 pub answered : (e : Answer) {old : Table} → e .refusal ≡ 0 → Delivered e 0 old (e .table)
-unfolding unless-refused
-answered e h = record { returned = sym h; left = rw h }
+answered e {old} h = record { returned = sym h; left = sym (unrefused-new (e .table) old h) }
 
 -- ---- the searches
 
@@ -62,12 +59,12 @@ module _ {a : ScanAnswer} (old : ℕ) where
   unfolding scan-refusal scan-memory
   scan-listed e = rw e (refl, refl)
 
-module _ (a : DomainAnswer) (marks searched : List ℕ) where
-  pub domain-refused : (a .refusal ≡ 0 → ⊥) → (marks ≡ marks-memory a marks) × (searched ≡ domain-memory a searched)
-  unfolding marks-memory domain-memory
-  domain-refused h = (unchanged (a .refusal) marks _ h, unchanged (a .refusal) searched _ h)
+module _ {a : DomainAnswer} (old : List ℕ) where
+  pub domain-refused : {n : ℕ} → a ≡ domain-variants.Refused n → (n ≡ domain-refusal a) × (old ≡ domain-memory a old)
+  unfolding domain-refusal domain-memory
+  domain-refused e = rw e (refl, refl)
 
-  pub domain-searched : a .refusal ≡ 0 → {v : ℕ} → v ≡ verdict-number (a .first)
-      → (a .marks ≡ marks-memory a marks) × (v ∷ a .listed ∷ [] ≡ domain-memory a searched)
-  unfolding marks-memory domain-memory unless-refused
-  domain-searched h e = rw (h, e) (refl, refl)
+  pub domain-searched : {first : Verdict} {n v : ℕ} → a ≡ domain-variants.Searched first n → v ≡ verdict-number first
+      → (0 ≡ domain-refusal a) × (v ∷ n ∷ [] ≡ domain-memory a old)
+  unfolding domain-refusal domain-memory
+  domain-searched e f = rw (e, f) (refl, refl)

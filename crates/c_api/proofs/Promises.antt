@@ -1,117 +1,95 @@
 -- What is promised of the C functions. Assumes nothing.
-use mathlib.Core.Path.{_≡_, refl, sym, _∙_, ap}
+use mathlib.Core.Path.{_≡_, refl, sym, _∙_}
 use mathlib.Core.List.{List}
-use mathlib.Core.Logic.{_↔_}
-use Prim.Native.Nat.{ℕ, zero, suc, _≤_}
+use Prim.Native.Nat.{ℕ, zero, suc}
 use native.Mathlib.Omega.{arith}
 use lib.ListN.{length}
 use Rattle.numbers.proofs.Equivalences.{through}
+use Rattle.numbers.proofs.Checklists.{accepts, refuses, unrefused-new, refused-old}
 use Rattle.expansion.specs.Answer.{answer}
 use Rattle.expansion.specs.declared.Table.{Table}
 use Rattle.expansion.specs.declared.Answer.{Answer}
-use Rattle.segment.specs.Segment.{Segment, Accepted, segment, refusal}
+use Rattle.geometry.specs.Segment.{Segment, segment}
+use Rattle.segment.specs.Accepted as segments
 use Rattle.segment.specs.Answer.{regular-answer-with, fine-answer-with, regular-answer, fine-answer, regular-refusal, fine-refusal}
-use Rattle.segment.proofs.Refusals.{accepts, refuses}
-use Rattle.domain.specs.Domain.{segment-hard-list}
-use Rattle.domain.specs.Answer.{scan-answer, scan-left, scan-refusal}
-use Rattle.domain.specs.Promise.{Scan-refused-for, Scan-right}
-use Rattle.domain.specs.declared.ScanAnswer.{ScanAnswer}
-use Rattle.domain.specs.declared.ScanAnswer.the-variants as scan-variants
-use Rattle.domain.proofs.Promises as domains
-use Rattle.c_api.specs.Memory.{unless-refused, Delivered, verdict-number, regular-memory, fine-memory, scan-memory, marks-memory, domain-memory}
+use Rattle.parabola.specs.Parabola.{Parabola}
+use Rattle.domain.specs.Domain.{parabola-of}
+use Rattle.domain.specs.declared.Domain.{Domain}
+use Rattle.domain.specs.Phases as phases
+use Rattle.domain.specs.Answer.{domain-checks, domain-number, answer-with, domain-answer, marks-after, list-after, domain-refusal, scan-checks, scan-number, scan-answer-with, scan-answer, scan-list-after, scan-refusal}
+use Rattle.c_api.specs.Memory.{Delivered, verdict-number, regular-memory, fine-memory, scan-memory, domain-memory}
 use Rattle.c_api.specs.Promise.{Promised}
 
--- the number that an answer carries is the one that refuses
-regular-number : (n : ℕ) (s : Segment) → regular-refusal (regular-answer-with n s) ≡ n
-unfolding regular-refusal regular-answer-with
-regular-number zero s = refl
-regular-number (suc n) s = refl
-
-fine-number : (n : ℕ) (s : Segment) → fine-refusal (fine-answer-with n s) ≡ n
-unfolding fine-refusal fine-answer-with
-fine-number zero s = refl
-fine-number (suc n) s = refl
-
--- and where there is one, the memory is as it was
-regular-kept : (n k : ℕ) (s : Segment) (old : List ℕ) → n ≡ suc k → regular-memory (regular-answer-with n s) old ≡ old
-unfolding regular-memory regular-answer-with
-regular-kept zero k s old e = absurd (omega (arith, e))
-regular-kept (suc n) k s old e = refl
-
-fine-kept : (n k : ℕ) (s : Segment) (old : List ℕ) → n ≡ suc k → fine-memory (fine-answer-with n s) old ≡ old
-unfolding fine-memory fine-answer-with
-fine-kept zero k s old e = absurd (omega (arith, e))
-fine-kept (suc n) k s old e = refl
-
--- ---- scans
-
--- a scan's answer refuses by a number exactly where it carries it
-scan-number-refuses : (a : ScanAnswer) (n : ℕ) → scan-refusal a ≡ suc n → a ≡ scan-variants.Refused (suc n)
-unfolding scan-refusal
-scan-number-refuses (scan-variants.Refused k) n e = ap scan-variants.Refused e
-scan-number-refuses (scan-variants.Listed k) n e = absurd (omega (arith, e))
-
-refuses-scan-number : {a : ScanAnswer} {n : ℕ} → a ≡ scan-variants.Refused n → scan-refusal a ≡ n
-unfolding scan-refusal
-refuses-scan-number e = rw e
-
-scan-kept : {a : ScanAnswer} {n : ℕ} (old : ℕ) → a ≡ scan-variants.Refused n → scan-memory a old ≡ old
-unfolding scan-memory
-scan-kept old e = rw e
-
-module _ (M a b N w : ℕ) (list : List ℕ) where
-  r : Scan-right M a b N w list (scan-answer M a b N w (length list)) (scan-left M a b N w list)
-  r = domains.promised .scans M a b N w list
-
-  scan-accepted : (scan-refusal (scan-answer M a b N w (length list)) ≡ 0) ↔ (Accepted (segment M a b N w) × (length (segment-hard-list (segment M a b N w)) ≤ length list))
-  scan-accepted = (to (scan-answer M a b N w (length list)) refl, λ h. back (r .listed _ .1 (h .0, h .1, refl)))
-    where
-      to : (x : ScanAnswer) → scan-answer M a b N w (length list) ≡ x → scan-refusal x ≡ 0
-          → Accepted (segment M a b N w) × (length (segment-hard-list (segment M a b N w)) ≤ length list)
-      to (scan-variants.Refused n) e z = absurd (domains.scan-back _ _ (r .refused n .0 e) .1 (unfold scan-refusal in z))
-      to (scan-variants.Listed n) e z = let t = r .listed n .0 e in (t .0, t .1)
-
-      back : {n : ℕ} → scan-answer M a b N w (length list) ≡ scan-variants.Listed n → scan-refusal (scan-answer M a b N w (length list)) ≡ 0
-      back e = unfold scan-refusal in rw e refl
-
-  scan-refuses : (n : ℕ) → (scan-refusal (scan-answer M a b N w (length list)) ≡ suc n) ↔ Scan-refused-for (segment M a b N w) (length list) (suc n)
-  scan-refuses n = (
-    λ e. r .refused (suc n) .0 (scan-number-refuses (scan-answer M a b N w (length list)) n e),
-    λ f. refuses-scan-number (r .refused (suc n) .1 f),
-  )
-
-  scan-unchanged : (n old : ℕ) → scan-refusal (scan-answer M a b N w (length list)) ≡ suc n
-      → (scan-memory (scan-answer M a b N w (length list)) old ≡ old) × (scan-left M a b N w list ≡ list)
-  scan-unchanged n old e =
-      let f : scan-answer M a b N w (length list) ≡ scan-variants.Refused (suc n) = scan-number-refuses (scan-answer M a b N w (length list)) n e in
-      (scan-kept old f, r .unchanged (suc n) f)
-
--- ---- domains
-
--- on a refusal what was there, else what is answered
-kept : {A : Type 0} {n k : ℕ} (old answered : A) → n ≡ suc k → unless-refused n old answered ≡ old
-unfolding unless-refused
-kept old answered e = rw e
-
-handed-over : {A : Type 0} {n : ℕ} (old answered : A) → n ≡ 0 → unless-refused n old answered ≡ answered
-unfolding unless-refused
-handed-over old answered e = rw e
-
--- the expansion's columns
-expanded : (e : Answer) {n : ℕ} {old new : Table} → e .refusal ≡ 0 → Delivered e n old new → (n ≡ 0) × (new ≡ e .table)
-expanded e z d = (d .returned ∙ z, d .left ∙ handed-over _ _ z)
-
-not-expanded : (e : Answer) {n k : ℕ} {old new : Table} → e .refusal ≡ suc k → Delivered e n old new → (n ≡ suc k) × (new ≡ old)
-not-expanded e z d = (d .returned ∙ z, d .left ∙ kept _ _ z)
+-- ---- the expansion
 
 -- equal tables have equal columns
 columns : {s t : Table} → s ≡ t
     → (s .remainders ≡ t .remainders) × (s .denominators ≡ t .denominators) × (s .quotients ≡ t .quotients) × (s .last ≡ t .last)
-columns e =
-    (ap (λ (x : Table). x .remainders) e, ap (λ (x : Table). x .denominators) e, ap (λ (x : Table). x .quotients) e, ap (λ (x : Table). x .last) e)
+columns e = (cc, cc, cc, cc)
+
+expanded : (e : Answer) {n : ℕ} {old new : Table} → e .refusal ≡ 0 → Delivered e n old new → (n ≡ 0) × (new ≡ e .table)
+expanded e z d = (d .returned ∙ z, d .left ∙ unrefused-new _ _ z)
+
+not-expanded : (e : Answer) {n k : ℕ} {old new : Table} → e .refusal ≡ suc k → Delivered e n old new → (n ≡ suc k) × (new ≡ old)
+not-expanded e z d = (d .returned ∙ z, d .left ∙ refused-old _ _ _ (λ y. omega (arith, y, z)))
+
+-- ---- what a number makes of an answer
+
+-- the number that an answer carries is the one that its checklist gives
+module _ (s : Segment) where
+  regular-number : (n : ℕ) → regular-refusal (regular-answer-with n s) ≡ n
+  unfolding regular-refusal regular-answer-with
+  regular-number zero = refl
+  regular-number (suc n) = refl
+
+  fine-number : (n : ℕ) → fine-refusal (fine-answer-with n s) ≡ n
+  unfolding fine-refusal fine-answer-with
+  fine-number zero = refl
+  fine-number (suc n) = refl
+
+  scan-number-is : (n : ℕ) → scan-refusal (scan-answer-with n s) ≡ n
+  unfolding scan-refusal scan-answer-with
+  scan-number-is zero = refl
+  scan-number-is (suc n) = refl
+
+domain-number-is : (p : Parabola) (n : ℕ) → domain-refusal (answer-with n p) ≡ n
+unfolding domain-refusal answer-with
+domain-number-is p zero = refl
+domain-number-is p (suc n) = refl
+
+-- ---- the calls
+
+module _ (M a b N w n : ℕ) where
+  regular-unchanged : (old : List ℕ) → regular-refusal (regular-answer M a b N w) ≡ suc n → regular-memory (regular-answer M a b N w) old ≡ old
+  unfolding regular-answer regular-memory regular-answer-with
+  regular-unchanged old e = rw (sym (regular-number (segment M a b N w) (segments.refusal (segment M a b N w))) ∙ e)
+
+  fine-unchanged : (old : List ℕ) → fine-refusal (fine-answer M a b N w) ≡ suc n → fine-memory (fine-answer M a b N w) old ≡ old
+  unfolding fine-answer fine-memory fine-answer-with
+  fine-unchanged old e = rw (sym (fine-number (segment M a b N w) (segments.refusal (segment M a b N w))) ∙ e)
+
+  scan-unchanged : (list : List ℕ) (old : ℕ) → scan-refusal (scan-answer M a b N w (length list)) ≡ suc n
+      → (scan-memory (scan-answer M a b N w (length list)) old ≡ old) × (scan-list-after M a b N w list ≡ list)
+  unfolding scan-answer scan-memory scan-answer-with scan-list-after
+  scan-unchanged list old e =
+      let f : scan-number (segment M a b N w) (length list) ≡ suc n = sym (scan-number-is (segment M a b N w) _) ∙ e in
+      (rw f, refused-old _ _ list (λ z. omega (arith, z, f)))
+
+domain-unchanged : (d : Domain) (n : ℕ) (marks list searched : List ℕ) → domain-refusal (domain-answer d (length list)) ≡ suc n
+    → (marks-after d (length list) marks ≡ marks) × (list-after d list ≡ list) × (domain-memory (domain-answer d (length list)) searched ≡ searched)
+unfolding domain-answer domain-memory answer-with marks-after list-after
+domain-unchanged d n marks list searched e =
+    let f : domain-number d (length list) ≡ suc n = sym (domain-number-is (parabola-of d) _) ∙ e in
+    let kept : domain-number d (length list) ≡ 0 → ⊥ = λ z. omega (arith, z, f) in
+    (refused-old _ _ marks kept, refused-old _ _ list kept, rw f)
+
+domain-marks : (d : Domain) (marks list : List ℕ) → domain-refusal (domain-answer d (length list)) ≡ 0
+    → marks-after d (length list) marks ≡ phases.marks (parabola-of d)
+unfolding domain-answer marks-after
+domain-marks d marks list e = unrefused-new _ marks (sym (domain-number-is (parabola-of d) _) ∙ e)
 
 pub promised : Promised
-unfolding verdict-number regular-memory fine-memory scan-memory marks-memory domain-memory regular-answer fine-answer
+unfolding verdict-number regular-memory fine-memory scan-memory domain-memory regular-answer fine-answer scan-answer domain-answer segments.refusal scan-number domain-number
 promised =
     record {
       expand-numbers = λ M a n m m′ us qs ks us′ qs′ ks′ z d.
@@ -120,19 +98,23 @@ promised =
           let r = not-expanded (answer M a) z d in let c = columns (r .1) in (r .0, c .0, c .1, c .2, c .3);
       clear-is-1 = refl;
       possible-is-0 = refl;
-      regular-accepted = λ M a b N w. let s : Segment = segment M a b N w in through (regular-number (refusal s) s) (accepts s);
-      regular-refused = λ M a b N w n. let s : Segment = segment M a b N w in through (regular-number (refusal s) s) (refuses s n);
-      regular-unchanged =
-          λ M a b N w n old e. let s : Segment = segment M a b N w in regular-kept (refusal s) n s old (sym (regular-number (refusal s) s) ∙ e);
+      regular-accepted = λ M a b N w. through (regular-number (segment M a b N w) _) (accepts (segments.checks (segment M a b N w)) (omega arith));
+      regular-refused = λ M a b N w n. through (regular-number (segment M a b N w) _) (refuses (segments.checks (segment M a b N w)) n);
+      regular-unchanged = regular-unchanged;
       regular-numbers = λ r old. refl;
-      fine-accepted = λ M a b N w. let s : Segment = segment M a b N w in through (fine-number (refusal s) s) (accepts s);
-      fine-refused = λ M a b N w n. let s : Segment = segment M a b N w in through (fine-number (refusal s) s) (refuses s n);
-      fine-unchanged = λ M a b N w n old e. let s : Segment = segment M a b N w in fine-kept (refusal s) n s old (sym (fine-number (refusal s) s) ∙ e);
+      fine-accepted = λ M a b N w. through (fine-number (segment M a b N w) _) (accepts (segments.checks (segment M a b N w)) (omega arith));
+      fine-refused = λ M a b N w n. through (fine-number (segment M a b N w) _) (refuses (segments.checks (segment M a b N w)) n);
+      fine-unchanged = fine-unchanged;
       fine-numbers = λ f old. refl;
-      scan-accepted = scan-accepted;
-      scan-refused = λ M a b N w n list. scan-refuses M a b N w list n;
-      scan-unchanged = λ M a b N w n list old. scan-unchanged M a b N w list n old;
+      scan-accepted = λ M a b N w list.
+          through (scan-number-is (segment M a b N w) _) (accepts (scan-checks (segment M a b N w) (length list)) (omega arith));
+      scan-refused = λ M a b N w n list. through (scan-number-is (segment M a b N w) _) (refuses (scan-checks (segment M a b N w) (length list)) n);
+      scan-unchanged = scan-unchanged;
       scan-number = λ n old. refl;
-      domain-unchanged = λ a n marks searched e. (kept marks _ e, kept searched _ e);
-      domain-numbers = λ a marks searched e. (handed-over marks _ e, handed-over searched _ e);
+      domain-is = λ M c0 c1 s N w. refl;
+      domain-accepted = λ d list. through (domain-number-is (parabola-of d) _) (accepts (domain-checks d (length list)) (omega arith));
+      domain-refused = λ d n list. through (domain-number-is (parabola-of d) _) (refuses (domain-checks d (length list)) n);
+      domain-unchanged = domain-unchanged;
+      domain-marks = domain-marks;
+      domain-numbers = λ v n searched. refl;
     }

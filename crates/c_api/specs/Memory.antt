@@ -1,7 +1,9 @@
 -- What a call returns and leaves in the caller's memory. Assumes nothing: these are definitions.
 use mathlib.Core.Path.{_≡_}
 use mathlib.Core.List.{List, [], _∷_}
-use Prim.Native.Nat.{ℕ, zero, suc}
+use Prim.Native.Nat.{ℕ}
+use lib.IntN.{ℤ}
+use Rattle.numbers.specs.Checklist.{unless-refused}
 use Rattle.expansion.specs.declared.Table.{Table}
 use Rattle.expansion.specs.declared.Answer.{Answer}
 use Rattle.segment.specs.declared.Verdict.{Verdict}
@@ -12,12 +14,9 @@ use Rattle.segment.specs.declared.FineAnswer.{FineAnswer}
 use Rattle.segment.specs.declared.FineAnswer.the-variants as fine-variants
 use Rattle.domain.specs.declared.ScanAnswer.{ScanAnswer}
 use Rattle.domain.specs.declared.ScanAnswer.the-variants as scan-variants
+use Rattle.domain.specs.declared.Domain.{Domain}
 use Rattle.domain.specs.declared.DomainAnswer.{DomainAnswer}
-
--- on a refusal what was there, else what is answered
-unfoldable pub unless-refused : {A : Type 0} → (refusal : ℕ) → (old answered : A) → A
-unless-refused zero old answered = answered
-unless-refused (suc n) old answered = old
+use Rattle.domain.specs.declared.DomainAnswer.the-variants as domain-variants
 
 -- the caller's three columns and the number beside them, as a table
 abbrev pub memory : (remainders denominators quotients : List ℕ) → (last : ℕ) → Table
@@ -26,7 +25,7 @@ memory us qs ks n = record { remainders = us; denominators = qs; quotients = ks;
 -- an expansion's answer handed over: its refusal or 0 returned, and its table in the memory, which a refusal leaves as it was
 pub record Delivered (answered : Answer) (number : ℕ) (old new : Table) : Type 0 where
   pub returned : number ≡ answered .refusal
-  pub left : new ≡ unless-refused (answered .refusal) old (answered .table)
+  pub left : new ≡ unless-refused (answered .refusal) (answered .table) old
 
 -- clear is 1, possible 0
 unfoldable pub verdict-number : Verdict → ℕ
@@ -48,10 +47,11 @@ unfoldable pub scan-memory : ScanAnswer → (old : ℕ) → ℕ
 scan-memory (scan-variants.Refused n) old = old
 scan-memory (scan-variants.Listed n) old = n
 
--- the marks that a domain search leaves, or what was there
-unfoldable pub marks-memory : DomainAnswer → (old : List ℕ) → List ℕ
-marks-memory a old = unless-refused (a .refusal) old (a .marks)
+-- the domain of a call, from its modulus, value, slope, curve, count and window
+abbrev pub domain-of : (M c0 c1 : ℕ) → (s : ℤ) → (N w : ℕ) → Domain
+domain-of M c0 c1 s N w = record { modulus = M; value = c0; slope = c1; curve = s; count = N; window = w }
 
--- the two numbers that it leaves: phase 1's verdict and how many arguments are listed
+-- the two numbers that a domain search leaves beside its marks and its list: phase 1's verdict and how many arguments are listed, or what was there
 unfoldable pub domain-memory : DomainAnswer → (old : List ℕ) → List ℕ
-domain-memory a old = unless-refused (a .refusal) old (verdict-number (a .first) ∷ a .listed ∷ [])
+domain-memory (domain-variants.Refused n) old = old
+domain-memory (domain-variants.Searched first listed) old = verdict-number first ∷ listed ∷ []

@@ -5,9 +5,9 @@ ghost use mathlib.Core.Path.{_≡_};
 ghost use lib.ListN.{length};
 ghost use Rattle.expansion.specs.Answer.{answer};
 ghost use Rattle.segment.specs.Answer.{regular-answer, fine-answer, regular-refusal, fine-refusal};
-ghost use Rattle.domain.specs.Answer.{scan-answer, scan-left, scan-refusal, domain-answer, domain-left};
+ghost use Rattle.domain.specs.Answer.{scan-answer, scan-list-after, scan-refusal, domain-answer, domain-refusal, marks-after, list-after};
 ghost use Rattle.range.specs.Range.{start-of, count-of};
-ghost use Rattle.c_api.specs.Memory.{memory, Delivered, verdict-number, regular-memory, fine-memory, scan-memory, marks-memory, domain-memory};
+ghost use Rattle.c_api.specs.Memory.{memory, Delivered, verdict-number, regular-memory, fine-memory, scan-memory, domain-of, domain-memory};
 
 // expansion::expand: returns 0 or the refusal. The table's columns and its last row's index are left as they were on a refusal.
 #[no_mangle]
@@ -111,7 +111,7 @@ pub extern "C" fn geyserdish_scan_segment(
     listed: &mut u64,
 ) -> u32
     ensures { λ r. ⌜ r ≡ scan-refusal (scan-answer modulus step start count window (length (now (list .entry)))) ⌝ }
-    ensures { λ r. ⌜ now (list .exit) ≡ scan-left modulus step start count window (now (list .entry)) ⌝ }
+    ensures { λ r. ⌜ now (list .exit) ≡ scan-list-after modulus step start count window (now (list .entry)) ⌝ }
     ensures { λ r. ⌜ now (listed .exit) ≡ scan-memory (scan-answer modulus step start count window (length (now (list .entry)))) (now (listed .entry)) ⌝ }
 {
     match domain::scan_segment(modulus, step, start, count, window, list) {
@@ -137,21 +137,26 @@ pub extern "C" fn geyserdish_search_domain(
     marks: &mut [u8; 8],
     searched: &mut [u64; 2],
 ) -> u32
-    ensures { λ r. ⌜ r ≡ domain-answer modulus value slope curve count window (length (now (list .entry))) .refusal ⌝ }
-    ensures { λ r. ⌜ now (list .exit) ≡ domain-left modulus value slope curve count window (now (list .entry)) ⌝ }
-    ensures { λ r. ⌜ now (marks .exit) ≡ marks-memory (domain-answer modulus value slope curve count window (length (now (list .entry)))) (now (marks .entry)) ⌝ }
-    ensures { λ r. ⌜ now (searched .exit) ≡ domain-memory (domain-answer modulus value slope curve count window (length (now (list .entry)))) (now (searched .entry)) ⌝ }
+    ensures { λ r. ⌜ r ≡ domain-refusal (domain-answer (domain-of modulus value slope curve count window) (length (now (list .entry)))) ⌝ }
+    ensures { λ r. ⌜ now (list .exit) ≡ list-after (domain-of modulus value slope curve count window) (now (list .entry)) ⌝ }
+    ensures { λ r. ⌜ now (marks .exit) ≡ marks-after (domain-of modulus value slope curve count window) (length (now (list .entry))) (now (marks .entry)) ⌝ }
+    ensures { λ r. ⌜ now (searched .exit) ≡ domain-memory (domain-answer (domain-of modulus value slope curve count window) (length (now (list .entry)))) (now (searched .entry)) ⌝ }
 {
-    let answer = domain::search_domain(modulus, value, slope, curve, count, window, list);
-    let number = answer.refusal;
-    if number != 0 {
-        return number;
+    let domain = domain::Domain {
+        modulus: modulus,
+        value: value,
+        slope: slope,
+        curve: curve,
+        count: count,
+        window: window,
+    };
+    match domain::search_domain(domain, marks, list) {
+        domain::DomainAnswer::Refused(number) => number,
+        domain::DomainAnswer::Searched { first, listed } => {
+            *searched = [number_of(first), listed as u64];
+            0
+        }
     }
-    let all = answer.marks;
-    *marks = all;
-    let first = answer.first;
-    *searched = [number_of(first), answer.listed as u64];
-    0
 }
 
 // range::range: returns how many entries the range has, and leaves in start where it begins in the list.

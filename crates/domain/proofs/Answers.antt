@@ -1,95 +1,242 @@
 -- What the calls answer and leave, from what their parts have found. Assumes nothing.
 use mathlib.Core.Path.{_≡_, refl, sym, _∙_, ap}
-use mathlib.Core.List.{List, []}
-use Prim.Native.Nat.{ℕ, zero, suc, _≤_, _<_}
+use mathlib.Core.Bool.{Bool, true, false}
+use mathlib.Core.List.{List, [], _∷_, map}
+use mathlib.Core.Logic.{_↔_, inl, by-cases}
+use Prim.Native.Nat.{ℕ, zero, suc, _+_, _-_, _*_, _%_, _≤_, _<_}
+use native.Mathlib.Nat.{zero-add, mod-lt}
+use native.Mathlib.Decide.{ℕ-discrete}
 use native.Mathlib.Omega.{arith}
-use borrow.Author.Tests.{lt-ltb, le-ltb}
+use lib.Dec.{eqb}
 use lib.ListN.{length, replicate}
 use lib.Seq.{sets}
-use Rattle.numbers.specs.Lists.{raised, in-front}
-use Rattle.numbers.proofs.Selections.{raised-zero, written-in-front}
-use Rattle.segment.specs.Segment.{Segment}
-use Rattle.segment.specs.Segment as segment-specs
+use mir.Val.{boolByte}
+use borrow.Author.Tests.{eq-eqb, ne-eqb}
+use Rattle.numbers.specs.Checklist.{first-failing, unless-refused}
+use Rattle.numbers.specs.Lists.{overwrite-front}
+use Rattle.numbers.proofs.Checklists.{accepts, accepted, refused, alike, first-of-two, second-of-two, neither-refuses}
+use Rattle.numbers.proofs.Buffers.{written-front}
+use Rattle.expansion.specs.Reached.Search.{regular}
+use Rattle.geometry.specs.Segment.{Segment}
+use Rattle.geometry.specs.Segment as geometry
+use Rattle.segment.specs.Accepted as segment
+use Rattle.segment.specs.Search.{verdict}
 use Rattle.segment.specs.declared.Verdict.the-variants.{Clear, Possible}
-use Rattle.domain.specs.Domain.{Accepted, hard-list, segment-hard-list, first-verdict, marks-after}
-use Rattle.domain.specs.Answer.{refusal, overflow, or-else, left-in, refused, reported, domain-number, domain-answer-with, scan-number, scan-answer-with}
-use Rattle.domain.specs.Phases.{looks-of}
-use Rattle.domain.specs.declared.part.Domain.{Domain}
-use Rattle.domain.specs.declared.phases.Looks.{Looks}
+use Rattle.segment.proofs.Promises as segment-promises
+use Rattle.parabola.specs.Parabola.{Parabola, In-range, Divisible, hard-list, covering, line}
+use Rattle.arc.specs.Arc.{parabola, arc-verdict}
+use Rattle.arc.specs.Arc as arc
+use Rattle.arc.specs.declared.Arc.{Arc}
+use Rattle.arc.proofs.Promises as arc-promises
+use Rattle.domain.specs.Domain.{parabola-of, checks, refusal, Accepted}
+use Rattle.domain.specs.Phases.{marks-by, marks, report}
+use Rattle.domain.specs.Answer.{room, domain-number, answer-with, domain-answer, marks-after, list-after, too-few, marks-with, list-with, scan-number, scan-answer-with}
+use Rattle.domain.specs.declared.Domain.{Domain}
+use Rattle.domain.specs.declared.DomainAnswer.{DomainAnswer}
+use Rattle.domain.specs.declared.DomainAnswer.the-variants as domain-variants
+use Rattle.domain.specs.declared.ScanAnswer.{ScanAnswer}
 use Rattle.domain.specs.declared.ScanAnswer.the-variants as scan-variants
-use Rattle.domain.proofs.Clearing.{first-clears, none-listed}
+use Rattle.domain.specs.declared.phases.Report.{Report}
+use Rattle.domain.proofs.Parts.{none-listed}
 
-pub too-few : (xs : List ℕ) {places : ℕ} → places < length xs → overflow xs places ≡ 7
-unfolding overflow
-too-few xs {places} h = rw (lt-ltb places (length xs) h)
+-- ---- which domains are accepted
 
-pub enough : (xs : List ℕ) {places : ℕ} → length xs ≤ places → overflow xs places ≡ 0
-unfolding overflow
-enough xs {places} h = rw (le-ltb places (length xs) h)
+pub accepted-iff : (d : Domain) → (refusal d ≡ 0) ↔ Accepted d
+unfolding refusal
+accepted-iff d =
+    let r = accepts (checks d) (omega arith) in (
+      λ e. let h = r .0 e in
+          record {
+            in-range = record {
+              unit-within = h .0;
+              slope-below = h .1 .0;
+              value-below = h .1 .1 .0;
+              count-low = omega (arith, h .1 .1 .1 .0 .0);
+              count-high = h .1 .1 .1 .0 .1 .0;
+              window-within = h .1 .1 .1 .1 .0;
+              size-small = h .1 .1 .1 .1 .1 .0;
+            };
+            count-some = h .1 .1 .1 .0 .0;
+            count-eighths = h .1 .1 .1 .0 .1 .1;
+          },
+      λ a. let b = a .in-range in
+          r .1 (b .unit-within, (b .slope-below, (b .value-below, ((a .count-some, (b .count-high, a .count-eighths)), (b .window-within, (b .size-small, tt)))))),
+    )
+
+-- the arc of a domain with another count
+abbrev pub counted : Domain → (count : ℕ) → Arc
+counted d n =
+    record { modulus = d .modulus; value = d .value; slope = d .slope; curve = d .curve; count = n; window = d .window }
+
+-- a number, or 0 where it is no multiple of 8
+abbrev eighths : (n : ℕ) → ℕ
+eighths n = n * boolByte (eqb (n % 8) 0)
+
+pub eighths-most : (n : ℕ) → eighths n ≤ n
+eighths-most n = by (eqb (n % 8) 0)
+  where
+    by : (b : Bool) → n * boolByte b ≤ n
+    by true = omega arith
+    by false = omega arith
+
+eighths-within : (n : ℕ) → ((1 ≤ eighths n) × (eighths n ≤ 1048576)) ↔ ((8 ≤ n) × ((n ≤ 1048576) × (n % 8 ≡ 0)))
+eighths-within n =
+    by-cases (ℕ-discrete (n % 8) 0)
+    (λ e. rw (eq-eqb (n % 8) 0 e) (λ h. (omega arith, (omega arith, e)), λ h. (omega arith, omega arith)))
+    (λ e. rw (ne-eqb (n % 8) 0 e) (λ h. absurd (omega (arith, h .0)), λ h. absurd (e (h .1 .1))))
+
+same : {P : Type 0} → P ↔ P
+same = (λ h. h, λ h. h)
+
+-- the number that an arc gets which has 0 for its count where that is no multiple of 8
+pub as-arc : (d : Domain) → arc.refusal (counted d (eighths (d .count))) ≡ refusal d
+unfolding arc.refusal refusal
+as-arc d =
+    alike (arc.checks (counted d (eighths (d .count)))) (checks d)
+    (refl, (same, (refl, (same, (refl, (same, (refl, (eighths-within (d .count), (refl, (same, (refl, (same, tt))))))))))))
+
+-- 0 exactly where a list has places enough
+room-iff : (xs : List ℕ) (places : ℕ) → (first-failing (room xs places) ≡ 0) ↔ (length xs ≤ places)
+room-iff xs places = let r = accepts (room xs places) (omega arith) in (λ e. r .0 e .0, λ h. r .1 (h, tt))
+
+pub number-accepts : (d : Domain) (places : ℕ) → (domain-number d places ≡ 0) ↔ (Accepted d × (length (hard-list (parabola-of d)) ≤ places))
+unfolding domain-number
+number-accepts d places =
+    let r = neither-refuses (checks d) (room (hard-list (parabola-of d)) places) (omega arith) in
+    let m = room-iff (hard-list (parabola-of d)) places in
+    let a = accepted-iff d in
+    (λ e. let h = r .0 e in (a .0 (unfold refusal in h .0), m .0 (h .1)), λ h. r .1 (unfold refusal in a .1 (h .0), m .1 (h .1)))
+
+pub scan-accepts : (s : Segment) (places : ℕ) → (scan-number s places ≡ 0) ↔ (segment.Accepted s × (length (geometry.hard-list s) ≤ places))
+unfolding scan-number
+scan-accepts s places =
+    let r = neither-refuses (segment.checks s) (room (geometry.hard-list s) places) (omega arith) in
+    let m = room-iff (geometry.hard-list s) places in
+    let a = segment-promises.promised .accepted _ _ _ _ _ in
+    (λ e. let h = r .0 e in (a .0 (unfold segment.refusal in h .0), m .0 (h .1)), λ h. r .1 (unfold segment.refusal in a .1 (h .0), m .1 (h .1)))
+
+-- ---- what a number makes of an answer and of the buffers
+
+-- the answer, the marks and the list
+abbrev Leaves : (number : ℕ) → Parabola → (old-marks old : List ℕ) → (answer : DomainAnswer) → (new-marks new : List ℕ) → Type 0
+Leaves n p old-marks old answer new-marks new =
+    (answer ≡ answer-with n p) × ((new-marks ≡ marks-with n p old-marks) × (new ≡ list-with n p old))
+
+refused-with : (n : ℕ) (p : Parabola) (old-marks old : List ℕ) → (n ≡ 0 → ⊥) → Leaves n p old-marks old (domain-variants.Refused n) old-marks old
+unfolding answer-with unless-refused
+refused-with zero p old-marks old h = absurd (h refl)
+refused-with (suc n) p old-marks old h = (refl, (refl, refl))
 
 -- ---- phases 2 and 3
 
-module _ (d : Domain) (old : List ℕ) where
-  pub parts-refused : length old < length (hard-list d)
-      → (refused 7 ≡ domain-answer-with (overflow (hard-list d) (length old)) d) × (old ≡ left-in (overflow (hard-list d) (length old)) (hard-list d) old)
-  unfolding domain-answer-with left-in
-  parts-refused h = rw (too-few (hard-list d) h) (refl, refl)
+module _ (p : Parabola) (old-marks old : List ℕ) where
+  pub parts-refused : length old < length (hard-list p)
+      → Leaves (too-few p (length old)) p old-marks old (domain-variants.Refused 7) old-marks old
+  unfolding too-few
+  parts-refused h = rw (refused (room (hard-list p) (length old)) {n = 7} (inl (refl, λ l. omega arith))) (refused-with 7 p old-marks old (λ z. omega (arith, z)))
 
-  pub parts-reported : first-verdict d ≡ Possible → length (hard-list d) ≤ length old → {l : Looks} → l ≡ looks-of d → {new : List ℕ} → new ≡ in-front (hard-list d) old
-      → (record { refusal = 0; first = Possible; marks = l .marks; listed = l .listed } ≡ domain-answer-with (overflow (hard-list d) (length old)) d)
-      × (new ≡ left-in (overflow (hard-list d) (length old)) (hard-list d) old)
-  unfolding domain-answer-with reported left-in looks-of marks-after
-  parts-reported p h e f = rw (enough (hard-list d) h, p, e, f) (refl, refl)
+  pub parts-searched : verdict regular (covering p) ≡ Possible → length (hard-list p) ≤ length old → {r : Report} → r ≡ report p → {new : List ℕ}
+      → new ≡ overwrite-front (hard-list p) old
+      → Leaves (too-few p (length old)) p old-marks old (domain-variants.Searched Possible (r .total)) (r .marks) new
+  unfolding too-few answer-with unless-refused report marks-by
+  parts-searched v h e f = rw (accepted (room (hard-list p) (length old)) (h, tt), v, e, f) (refl, (refl, refl))
 
-  -- ---- the whole domain
+-- ---- the whole domain
 
+-- what the contract says
+abbrev Answered : Domain → (old-marks old : List ℕ) → (answer : DomainAnswer) → (new-marks new : List ℕ) → Type 0
+Answered d old-marks old answer new-marks new =
+    (answer ≡ domain-answer d (length old)) × ((new-marks ≡ marks-after d (length old) old-marks) × (new ≡ list-after d old))
+
+module _ (d : Domain) (old-marks old : List ℕ) where
   -- a refusal before anything is searched
-  pub domain-refused : {n : ℕ} → n ≡ refusal d → (n ≡ 0 → ⊥)
-      → (refused n ≡ domain-answer-with (domain-number d (length old)) d) × (old ≡ left-in (domain-number d (length old)) (hard-list d) old)
-  domain-refused {n} e h = by (refusal d) (sym e)
-    where
-      by : (k : ℕ) → k ≡ n
-          → (refused n ≡ domain-answer-with (or-else k (overflow (hard-list d) (length old))) d) × (old ≡ left-in (or-else k (overflow (hard-list d) (length old))) (hard-list d) old)
-      by zero f = absurd (h (sym f))
-      by (suc k) f = unfold or-else domain-answer-with left-in in (ap refused (sym f), refl)
+  pub domain-refused : {n : ℕ} → n ≡ refusal d → (n ≡ 0 → ⊥) → Answered d old-marks old (domain-variants.Refused n) old-marks old
+  unfolding domain-answer marks-after list-after domain-number refusal
+  domain-refused {n} e h = rw (first-of-two (checks d) (room (hard-list (parabola-of d)) (length old)) (sym e) h) (refused-with n (parabola-of d) old-marks old h)
 
-  -- phase 1 clears it
-  pub domain-cleared : Accepted d → refusal d ≡ 0 → first-verdict d ≡ Clear
-      → (record { refusal = 0; first = Clear; marks = replicate 8 0; listed = 0 } ≡ domain-answer-with (domain-number d (length old)) d)
-      × (old ≡ left-in (domain-number d (length old)) (hard-list d) old)
-  unfolding or-else domain-answer-with reported left-in marks-after in-front
-  domain-cleared a e c =
-      let nothing : hard-list d ≡ [] = none-listed d (first-clears (a .fair) c) in
-      let number : domain-number d (length old) ≡ 0 = rw e (enough (hard-list d) (omega (arith, ap length nothing))) in
-      rw (number, c, nothing) (refl, refl)
+  module _ (a : Accepted d) where
+    -- an accepted one can be refused by 7 alone
+    number-is : domain-number d (length old) ≡ too-few (parabola-of d) (length old)
+    unfolding domain-number too-few refusal
+    number-is =
+        second-of-two (checks d) (room (hard-list (parabola-of d)) (length old)) (accepts (checks d) (omega arith) .0 (accepted-iff d .1 a))
 
-  -- the number is that of the parts
-  pub parts-number : refusal d ≡ 0 → domain-number d (length old) ≡ overflow (hard-list d) (length old)
-  unfolding or-else
-  parts-number e = rw e
+    -- phase 1 clears it
+    pub domain-cleared : {b : Arc} → parabola b ≡ parabola-of d → arc-verdict regular b ≡ Clear
+        → Answered d old-marks old (domain-variants.Searched Clear 0) (replicate 8 0) old
+    unfolding domain-answer marks-after list-after too-few answer-with unless-refused marks-by overwrite-front
+    domain-cleared {b} e c =
+        let r : In-range (parabola b) = rw e (a .in-range) in
+        let v : verdict regular (covering (parabola-of d)) ≡ Clear
+        = ap (λ (p : Parabola). verdict regular (covering p)) (sym e) ∙ sym (arc-promises.promised .arcs b .verdict-is regular r) ∙ c in
+        let nothing : hard-list (parabola-of d) ≡ [] = ap hard-list (sym e) ∙ none-listed regular b c in
+        rw (number-is, accepted (room (hard-list (parabola-of d)) (length old)) (omega (arith, ap length nothing), tt), v, nothing) (refl, (refl, refl))
+
+    -- or it does not
+    pub searched-requires : {b : Arc} → parabola b ≡ parabola-of d → arc-verdict regular b ≡ Possible
+        → Divisible (parabola b) × (verdict regular (covering (parabola b)) ≡ Possible)
+    searched-requires {b} e c =
+        let r : In-range (parabola b) = rw e (a .in-range) in
+        (rw e a, sym (arc-promises.promised .arcs b .verdict-is regular r) ∙ c)
+
+    -- phases 2 and 3 search it
+    pub domain-searched : {p : Parabola} → p ≡ parabola-of d → {answer : DomainAnswer} {new-marks new : List ℕ}
+        → Leaves (too-few p (length old)) p old-marks old answer new-marks new → Answered d old-marks old answer new-marks new
+    unfolding domain-answer marks-after list-after
+    domain-searched e l = rw number-is (rw e at l)
 
 -- ---- scans
 
+-- a segment that is accepted is a line within its bounds
+pub line-in-range : {s : Segment} → segment.Accepted s → In-range (line s)
+line-in-range {s} c =
+    let a = c .searchable in
+    record {
+      unit-within = a .unit-within;
+      slope-below = mod-lt (s .unit - s .step) (omega (arith, a .start-below));
+      value-below = a .start-below;
+      count-low = a .count-low;
+      count-high = a .count-high;
+      window-within = c .window-within;
+      size-small = omega arith;
+    }
+
+-- the answer and the list
+abbrev Scan-leaves : (number : ℕ) → Segment → (old : List ℕ) → (answer : ScanAnswer) → (new : List ℕ) → Type 0
+Scan-leaves n s old answer new = (answer ≡ scan-answer-with n s) × (new ≡ unless-refused n (overwrite-front (geometry.hard-list s) old) old)
+
+scan-refused-with : (n : ℕ) (s : Segment) (old : List ℕ) → (n ≡ 0 → ⊥) → Scan-leaves n s old (scan-variants.Refused n) old
+unfolding scan-answer-with unless-refused
+scan-refused-with zero s old h = absurd (h refl)
+scan-refused-with (suc n) s old h = (refl, refl)
+
+-- nothing is added
+add-nothing : (xs : List ℕ) → map (λ (x : ℕ). 0 + x) xs ≡ xs
+add-nothing [] = refl
+add-nothing (x ∷ xs) = rw (zero-add x, add-nothing xs)
+
 module _ (s : Segment) (old : List ℕ) where
-  pub scan-refused : {n : ℕ} → n ≡ segment-specs.refusal s → (n ≡ 0 → ⊥)
-      → (scan-variants.Refused n ≡ scan-answer-with (scan-number s (length old)) s) × (old ≡ left-in (scan-number s (length old)) (segment-hard-list s) old)
-  scan-refused {n} e h = by (segment-specs.refusal s) (sym e)
-    where
-      by : (k : ℕ) → k ≡ n
-          → (scan-variants.Refused n ≡ scan-answer-with (or-else k (overflow (segment-hard-list s) (length old))) s)
-          × (old ≡ left-in (or-else k (overflow (segment-hard-list s) (length old))) (segment-hard-list s) old)
-      by zero f = absurd (h (sym f))
-      by (suc k) f = unfold or-else scan-answer-with left-in in (ap scan-variants.Refused (sym f), refl)
+  -- a refusal before anything is scanned
+  pub scan-refused : {n : ℕ} → n ≡ segment.refusal s → (n ≡ 0 → ⊥) → Scan-leaves (scan-number s (length old)) s old (scan-variants.Refused n) old
+  unfolding scan-number segment.refusal
+  scan-refused {n} e h = rw (first-of-two (segment.checks s) (room (geometry.hard-list s) (length old)) (sym e) h) (scan-refused-with n s old h)
 
-  module _ (e : segment-specs.refusal s ≡ 0) where
-    pub scan-too-few : length old < length (segment-hard-list s)
-        → (scan-variants.Refused 7 ≡ scan-answer-with (scan-number s (length old)) s) × (old ≡ left-in (scan-number s (length old)) (segment-hard-list s) old)
-    unfolding or-else scan-answer-with left-in
-    scan-too-few h = rw (e, too-few (segment-hard-list s) h) (refl, refl)
+  module _ (c : segment.Accepted s) where
+    number-of-room : {n : ℕ} → first-failing (room (geometry.hard-list s) (length old)) ≡ n → scan-number s (length old) ≡ n
+    unfolding scan-number segment.refusal
+    number-of-room e =
+        second-of-two (segment.checks s) (room (geometry.hard-list s) (length old))
+        (accepts (segment.checks s) (omega arith) .0 (segment-promises.promised .accepted _ _ _ _ _ .1 c))
+        ∙ e
 
-    pub scan-listed : length (segment-hard-list s) ≤ length old → {n : ℕ} → n ≡ length (segment-hard-list s) → {new : List ℕ}
-        → new ≡ sets old 0 (raised 0 (segment-hard-list s))
-        → (scan-variants.Listed n ≡ scan-answer-with (scan-number s (length old)) s) × (new ≡ left-in (scan-number s (length old)) (segment-hard-list s) old)
-    unfolding or-else scan-answer-with left-in
-    scan-listed h {n} f {new} g =
-        rw (e, enough (segment-hard-list s) h, f) (refl, g ∙ ap (sets old 0) (raised-zero (segment-hard-list s)) ∙ written-in-front (segment-hard-list s) old h)
+    pub scan-too-few : length old < length (geometry.hard-list s) → Scan-leaves (scan-number s (length old)) s old (scan-variants.Refused 7) old
+    scan-too-few h =
+        rw (number-of-room (refused (room (geometry.hard-list s) (length old)) {n = 7} (inl (refl, λ l. omega arith))))
+        (scan-refused-with 7 s old (λ z. omega (arith, z)))
+
+    pub scan-listed : length (geometry.hard-list s) ≤ length old → {n : ℕ} → n ≡ length (geometry.hard-list s) → {new : List ℕ}
+        → new ≡ sets old 0 (map (λ (x : ℕ). 0 + x) (geometry.hard-list s)) → Scan-leaves (scan-number s (length old)) s old (scan-variants.Listed n) new
+    unfolding scan-answer-with unless-refused
+    scan-listed h f g =
+        rw (number-of-room (accepted (room (geometry.hard-list s) (length old)) (h, tt)), f)
+        (refl, g ∙ ap (sets old 0) (add-nothing (geometry.hard-list s)) ∙ written-front (geometry.hard-list s) old h)

@@ -1,14 +1,6 @@
-pub mod Values
-pub mod Products
-pub mod Bounds
-pub mod Scanning
-pub mod Coverings
-pub mod Clearing
-pub mod Parts
-pub mod Curves
-pub mod Refusals
-pub mod Lines
-pub mod Answers
-pub mod Members
-pub mod Verdicts
+mod Scanning
+mod Parts
+mod Answers
+mod Numbers
+mod Verdicts
 pub mod Promises

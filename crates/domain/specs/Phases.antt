@@ -1,21 +1,50 @@
--- What is known of the parts of a domain before anything is listed, for the contracts of the functions that look at them. Assumes nothing: these are definitions.
+-- What the phases find in a parabola: the marks of its parts, and how many hard arguments each has. Assumes nothing: these are definitions.
 use mathlib.Core.List.{List}
 use Prim.Native.Nat.{ℕ}
-use lib.ListN.{length}
-use Rattle.numbers.specs.Lists.{enumerated}
-use Rattle.domain.specs.Domain.{hard-list, part, part-verdict, mark-of, marks-from}
-use Rattle.domain.specs.declared.part.Domain.{Domain}
-use Rattle.domain.specs.declared.phases.Look.{Look}
-use Rattle.domain.specs.declared.phases.Looks.{Looks}
+use lib.ListN.{length, replicate}
+use Rattle.numbers.specs.Lists.{tabulate}
+use Rattle.expansion.specs.Reached.Search.{regular, fine}
+use Rattle.segment.specs.Search.{verdict}
+use Rattle.segment.specs.declared.Verdict.{Verdict}
+use Rattle.segment.specs.declared.Verdict.the-variants.{Clear, Possible}
+use Rattle.parabola.specs.Parabola.{Parabola, hard-list, covering, part}
+use Rattle.domain.specs.declared.phases.PartReport.{PartReport}
+use Rattle.domain.specs.declared.phases.Report.{Report}
 
--- the mark of a part, and how many hard arguments it has
-unfoldable pub look-of : (part : Domain) → Look
-look-of p = record { mark = mark-of (part-verdict p); hard = length (hard-list p) }
+-- a part is marked 1 where it is clear, 2 where it is possible, and then it is scanned
+unfoldable pub mark-of : Verdict → ℕ
+mark-of Clear = 1
+mark-of Possible = 2
 
--- how many hard arguments as many parts from i on have as are left
-abbrev pub counts-from : (left i : ℕ) → Domain → List ℕ
-counts-from n i d = enumerated (λ j. length (hard-list (part d j))) n i
+-- phase 2: the fine search of each part's covering segment
+abbrev pub part-mark : Parabola → (i : ℕ) → ℕ
+part-mark p i = mark-of (verdict fine (covering (part p i)))
 
--- the marks and the counts of all parts, and how many hard arguments the domain has
-unfoldable pub looks-of : Domain → Looks
-looks-of d = record { marks = marks-from 8 0 d; counts = counts-from 8 0 d; listed = length (hard-list d) }
+abbrev pub part-marks : Parabola → List ℕ
+part-marks p = tabulate (part-mark p) 8 0
+
+-- the eight marks, by the verdict of phase 1: 0, not looked at, where it clears the whole
+unfoldable pub marks-by : Verdict → Parabola → List ℕ
+marks-by Clear p = replicate 8 0
+marks-by Possible p = part-marks p
+
+-- phase 1: the regular search of the covering segment
+abbrev pub marks : Parabola → List ℕ
+marks p = marks-by (verdict regular (covering p)) p
+
+-- phase 3: how many hard arguments each part has
+abbrev pub part-count-hard : Parabola → (i : ℕ) → ℕ
+part-count-hard p i = length (hard-list (part p i))
+
+abbrev pub part-counts : Parabola → List ℕ
+part-counts p = tabulate (part-count-hard p) 8 0
+
+-- ---- what is known of the parts before anything is listed
+
+-- of one, given as a parabola of its own
+unfoldable pub part-report : Parabola → PartReport
+part-report q = record { mark = mark-of (verdict fine (covering q)); count = length (hard-list q) }
+
+-- of all
+unfoldable pub report : Parabola → Report
+report p = record { marks = part-marks p; counts = part-counts p; total = length (hard-list p) }

@@ -1,30 +1,27 @@
-// Scans: the hard arguments of a domain, or of a line, counted and listed by going from each value to the next.
+// Scans: the hard arguments of an arc counted and listed by going from each value to the next.
 ghost use mathlib.Core.Path.{_≡_};
-ghost use mathlib.Core.Bool.{cond};
-ghost use Prim.Native.Nat.{_+_, _≤_};
-ghost use lib.Dec.{ltb};
+ghost use mathlib.Core.List.{map};
+ghost use Prim.Native.Nat.{_+_, _%_, _^_, _≤_, _<_};
 ghost use lib.ListN.{length};
 ghost use lib.Seq.{sets};
-ghost use Rattle.numbers.specs.Lists.{raised};
-ghost use Rattle.domain.specs.Domain.{Fair, hard-list};
+ghost use Rattle.parabola.specs.Parabola.{In-range, hard-list};
+ghost use Rattle.arc.specs.Arc.{parabola};
 ghost use Rattle.domain.specs.Scan.{Point-below, next-point};
-use crate::modular::add;
-use crate::modular::add_fixed;
-use crate::part::Domain;
-use crate::part::bend;
+use arc::Arc;
+use numbers::remainder;
 
-// A value of a domain, and the slope there: what leads to the next value.
+// A value of an arc, and the slope there, which leads to the next value.
 struct Point {
     value: u64,
     slope: u64,
 }
 
 // A line keeps its slope. The compiler takes this test out of a scan's loop and makes two loops of it.
-fn next(point: Point, bend: u64, modulus: u64) -> Point
-    requires { ⌜ Point-below bend modulus point ⌝ }
-    ensures { λ r. ⌜ r ≡ next-point bend modulus point ⌝ }
+fn next(point: Point, second: u64, modulus: u64) -> Point
+    requires { ⌜ Point-below second modulus point ⌝ }
+    ensures { λ r. ⌜ r ≡ next-point second modulus point ⌝ }
 {
-    if bend == 0 {
+    if second == 0 {
         return Point {
             value: add_fixed(point.value, point.slope, modulus),
             slope: point.slope,
@@ -32,68 +29,77 @@ fn next(point: Point, bend: u64, modulus: u64) -> Point
     }
     Point {
         value: add(point.value, point.slope, modulus),
-        slope: add(point.slope, bend, modulus),
+        slope: add(point.slope, second, modulus),
     }
 }
 
-// Whether an argument with this value is hard.
-fn is_hard(value: u64, window: u64) -> bool
-    ensures { λ r. ⌜ r ≡ ltb value window ⌝ }
+// a + b modulo M.
+fn add(a: u64, b: u64, modulus: u64) -> u64
+    requires { ⌜ (a < modulus) × (b < modulus) × (modulus ≤ 2 ^ 62) ⌝ }
+    ensures { λ r. ⌜ r ≡ (a + b) % modulus ⌝ }
 {
-    value < window
+    let sum = a + b;
+    if sum < modulus {
+        return sum;
+    }
+    sum - modulus
 }
 
-fn one_if(hard: bool) -> u32
-    ensures { λ r. ⌜ r ≡ cond hard 1 0 ⌝ }
+// The same where b stays as it is in a loop: what the modulus exceeds it by is known before a is, and the test need not wait for the sum.
+fn add_fixed(a: u64, b: u64, modulus: u64) -> u64
+    requires { ⌜ (a < modulus) × (b < modulus) × (modulus ≤ 2 ^ 62) ⌝ }
+    ensures { λ r. ⌜ r ≡ (a + b) % modulus ⌝ }
 {
-    if hard {
-        return 1;
+    let rest = modulus - b;
+    if a < rest {
+        return a + b;
     }
-    0
+    a - rest
 }
 
 // How many hard arguments there are.
-pub(crate) fn count_hard(domain: Domain) -> u32
-    requires { ⌜ Fair domain ⌝ }
-    ensures { λ r. ⌜ r ≡ length (hard-list domain) ⌝ }
+pub(crate) fn count_hard(arc: Arc) -> u32
+    requires { ⌜ In-range (parabola arc) ⌝ }
+    ensures { λ r. ⌜ r ≡ length (hard-list (parabola arc)) ⌝ }
 {
-    let bend = bend(domain);
+    let second = remainder(arc.curve, arc.modulus);
     let mut point = Point {
-        value: domain.value,
-        slope: domain.slope,
+        value: arc.value,
+        slope: arc.slope,
     };
     let mut x: u64 = 0;
-    let mut hard: u32 = 0;
-    while x < domain.count {
-        hard = hard + one_if(is_hard(point.value, domain.window));
-        point = next(point, bend, domain.modulus);
+    let mut number: u32 = 0;
+    while x < arc.count {
+        number = number + (point.value < arc.window) as u32;
+        point = next(point, second, arc.modulus);
         x = x + 1;
     }
-    hard
+    number
 }
 
-// Writes the hard arguments, so many, into the list from a place on, each larger by what the domain begins at. It ends with the last of them.
-pub(crate) fn list_hard(domain: Domain, begin: u32, hard: u32, list: &mut [u32], place: usize)
-    requires { ⌜ Fair domain ⌝ }
-    requires { ⌜ hard ≡ length (hard-list domain) ⌝ }
+// Writes the hard arguments, of which there are `number`, into the list from a place on, each larger by what the arc begins at. It ends with the last of
+// them.
+pub(crate) fn list_hard(arc: Arc, begin: u32, number: u32, list: &mut [u32], place: usize)
+    requires { ⌜ In-range (parabola arc) ⌝ }
+    requires { ⌜ number ≡ length (hard-list (parabola arc)) ⌝ }
     requires { ⌜ begin ≤ 1048576 ⌝ }
-    requires { ⌜ place + hard ≤ length (now list) ⌝ }
-    ensures { λ _. ⌜ now (list .exit) ≡ sets (now (list .entry)) place (raised begin (hard-list domain)) ⌝ }
+    requires { ⌜ place + number ≤ length (now list) ⌝ }
+    ensures { λ _. ⌜ now (list .exit) ≡ sets (now (list .entry)) place (map (λ x. begin + x) (hard-list (parabola arc))) ⌝ }
 {
-    let bend = bend(domain);
+    let second = remainder(arc.curve, arc.modulus);
     let mut point = Point {
-        value: domain.value,
-        slope: domain.slope,
+        value: arc.value,
+        slope: arc.slope,
     };
-    let end = place + hard as usize;
+    let end = place + number as usize;
     let mut at = place;
     let mut x = begin;
     while at < end {
-        if is_hard(point.value, domain.window) {
+        if point.value < arc.window {
             list[at] = x;
             at = at + 1;
         }
-        point = next(point, bend, domain.modulus);
+        point = next(point, second, arc.modulus);
         x = x + 1;
     }
 }

@@ -1,23 +1,32 @@
 -- The settled examples, computed from the definitions. Assumes nothing.
 use mathlib.Core.Path.{refl}
-use Rattle.numbers.specs.Lists.{zero-padded, having, enumerated, in-front}
+use mathlib.Core.Logic.{Dec·and}
+use native.Mathlib.Decide.{decLe, decLt, ℕ-discrete}
+use Rattle.numbers.specs.Checklist.{first-failing, unless-refused}
+use Rattle.numbers.specs.Integers.{_modulo_}
+use Rattle.numbers.specs.Unit.{ranged}
+use Rattle.numbers.specs.Lists.{zero-padded, filter-range, tabulate, overwrite-front}
 use Rattle.expansion.specs.Rows.{rows-from, expansion}
 use Rattle.expansion.specs.Configurations.{regular-from, regular, parts-from, fine-from, fine}
 use Rattle.expansion.specs.Answer.{refusal, answer-with, answer}
-use Rattle.segment.specs.Segment.{residue}
-use Rattle.segment.specs.Segment as segments
-use Rattle.segment.specs.Search.{configurations-of, reached-in, reached, least-from, argument, distance}
-use Rattle.segment.specs.Answer.{verdict-at, regular-shown, fine-shown, regular-answer-with, fine-answer-with, regular-answer, fine-answer}
-use Rattle.domain.specs.Domain.{is-negative, triangle, shifted, value-at, slope-at, is-hard, hard-list, segment-hard-list, spread, covering-step, covering-start, covering-window, part-count, part-start, part, regular-verdict, fine-verdict, first-verdict, part-verdict, mark-of, marks-after}
-use Rattle.domain.specs.Answer.{curve-refusal, overflow, or-else, left-in, reported, domain-answer-with, domain-answer, domain-left, scan-answer-with, scan-answer, scan-left}
-use Rattle.domain.specs.Answer as domain-answers
-use Rattle.job.specs.Text.{decimal-within, decimal}
-use Rattle.job.specs.Reading.{starts, digits-from, number-from, field-at, unsigned, opposite, signed-from, curve-at, reading}
-use Rattle.job.specs.Output.{word, figures, argument-lines, refused, told, printed, output-with, output-of}
+use Rattle.expansion.specs.Reached.{configurations-of, reached-in, reached}
+use Rattle.geometry.specs.Segment as geometry
+use Rattle.geometry.specs.Segment.{residue}
+use Rattle.segment.specs.Accepted as segments
+use Rattle.segment.specs.Search.{least-from, argument, distance, verdict-at}
+use Rattle.segment.specs.Answer.{regular-shown, fine-shown, regular-answer-with, fine-answer-with, regular-answer, fine-answer}
+use Rattle.parabola.specs.Parabola as parabola
+use Rattle.parabola.specs.Parabola.{triangle, value-at, slope-at, spread, covering-step, start-over, covering-start, covering-window, continued, part-count, part-start}
+use Rattle.domain.specs.Phases.{mark-of, marks-by}
+use Rattle.domain.specs.Answer.{domain-number, answer-with as domain-answer-with, domain-answer, marks-after, list-after, scan-number, scan-answer-with, scan-answer, scan-list-after}
+use Rattle.text.specs.Text.{decimal-within, decimal}
+use Rattle.text.specs.Reading.{starts, takes-digit, digits-from, number-from, field-at, unsigned, opposite, signed-from, signed-field-at}
+use Rattle.job.specs.Reading.{rest-from, reading}
+use Rattle.job.specs.Output.{verdict-name, argument-lines, refused, report, printed-for, printed, output-with, output-of}
 use Rattle.examples.specs.Settled.{Example-1, Example-9, Example-10, Example-11, Settled}
 
 example-1 : Example-1
-unfolding rows-from expansion zero-padded refusal answer-with answer regular-from regular parts-from fine-from fine
+unfolding decLe decLt Dec·and ℕ-discrete ranged first-failing rows-from expansion zero-padded refusal answer-with answer regular-from regular parts-from fine-from fine
 example-1 =
     record {
       remainders-are = refl;
@@ -29,7 +38,7 @@ example-1 =
     }
 
 example-9 : Example-9
-unfolding having in-front residue segments.refusal segment-hard-list overflow or-else left-in scan-answer-with scan-answer scan-left
+unfolding decLe decLt Dec·and ℕ-discrete ranged first-failing unless-refused filter-range overwrite-front residue geometry.is-hard geometry.hard-list scan-number scan-answer-with scan-answer scan-list-after
 example-9 =
     record {
       hard-6 = refl;
@@ -46,15 +55,23 @@ example-9 =
     }
 
 example-10 : Example-10
-unfolding rows-from expansion regular-from regular parts-from fine-from fine residue segments.refusal configurations-of reached-in reached least-from argument distance verdict-at regular-shown fine-shown regular-answer-with fine-answer-with regular-answer fine-answer having enumerated in-front triangle shifted value-at slope-at is-negative is-hard hard-list spread covering-step covering-start covering-window part-count part-start part regular-verdict fine-verdict first-verdict part-verdict mark-of marks-after curve-refusal domain-answers.refusal overflow or-else left-in reported domain-answer-with domain-answer domain-left decimal-within decimal starts digits-from number-from field-at unsigned opposite signed-from curve-at reading word figures argument-lines refused told printed output-with output-of
-example-10 = record { prints = refl; read = refl; answered = refl; left = λ x y. refl }
+unfolding decLe decLt Dec·and ℕ-discrete ranged first-failing unless-refused rows-from expansion regular-from regular parts-from fine-from fine configurations-of reached-in reached residue least-from argument distance verdict-at filter-range tabulate overwrite-front _modulo_ triangle value-at slope-at parabola.is-hard parabola.hard-list spread covering-step start-over covering-start covering-window continued part-count part-start mark-of marks-by domain-number domain-answer-with domain-answer marks-after list-after decimal-within decimal starts takes-digit digits-from number-from field-at unsigned opposite signed-from signed-field-at rest-from reading verdict-name argument-lines refused report printed-for printed output-with output-of
+example-10 = record { prints = refl; read = refl; answered = refl; marks = λ old. refl; left = λ x y. refl }
 
 example-11 : Example-11
-unfolding rows-from expansion regular-from regular parts-from fine-from fine residue segments.refusal configurations-of reached-in reached least-from argument distance verdict-at regular-shown fine-shown regular-answer-with fine-answer-with regular-answer fine-answer having enumerated in-front triangle shifted value-at slope-at is-negative is-hard hard-list spread covering-step covering-start covering-window part-count part-start part regular-verdict fine-verdict first-verdict part-verdict mark-of marks-after curve-refusal domain-answers.refusal overflow or-else left-in reported domain-answer-with domain-answer domain-left
-example-11 = record { rising = refl; rising-left = λ x y. refl; falling = refl; falling-left = λ x y. refl }
+unfolding decLe decLt Dec·and ℕ-discrete ranged first-failing unless-refused rows-from expansion regular-from regular parts-from fine-from fine configurations-of reached-in reached residue least-from argument distance verdict-at filter-range tabulate overwrite-front _modulo_ triangle value-at slope-at parabola.is-hard parabola.hard-list spread covering-step start-over covering-start covering-window continued part-count part-start mark-of marks-by domain-number domain-answer-with domain-answer marks-after list-after
+example-11 =
+    record {
+      rising = refl;
+      rising-marks = λ old. refl;
+      rising-left = λ x y. refl;
+      falling = refl;
+      falling-marks = λ old. refl;
+      falling-left = λ x y. refl;
+    }
 
 pub settled : Settled
-unfolding rows-from expansion regular-from regular parts-from fine-from fine residue segments.refusal configurations-of reached-in reached least-from argument distance verdict-at regular-shown fine-shown regular-answer-with fine-answer-with regular-answer fine-answer
+unfolding decLe decLt Dec·and ℕ-discrete ranged first-failing segments.refusal rows-from expansion regular-from regular parts-from fine-from fine configurations-of reached-in reached residue least-from argument distance verdict-at regular-shown fine-shown regular-answer-with fine-answer-with regular-answer fine-answer
 settled =
     record {
       p1 = example-1;

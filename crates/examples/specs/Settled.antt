@@ -1,21 +1,23 @@
 -- Document 01's settled examples marked P, as one statement with a field for each. Assumes nothing: these are statements.
 use mathlib.Core.Path.{_≡_}
-use mathlib.Core.List.{[], _∷_}
+use mathlib.Core.List.{List, [], _∷_}
 use Prim.Native.Nat.{ℕ}
-use lib.IntN.{pos, negsuc}
+use lib.IntN.{ℤ, pos, negsuc}
 use lib.ListN.{replicate}
 use Rattle.expansion.specs.Rows.{expansion, remainders, denominators, quotients}
 use Rattle.expansion.specs.Configurations.{counts, regular, fine}
 use Rattle.expansion.specs.Answer.{answer}
-use Rattle.segment.specs.Segment.{segment}
-use Rattle.segment.specs.Answer.{verdict-at, regular-shown, fine-shown, regular-answer, fine-answer}
+use Rattle.geometry.specs.Segment.{segment, hard-list}
+use Rattle.segment.specs.Search.{verdict-at}
+use Rattle.segment.specs.Answer.{regular-shown, fine-shown, regular-answer, fine-answer}
 use Rattle.segment.specs.declared.Verdict.the-variants.{Clear, Possible}
 use Rattle.segment.specs.declared.RegularAnswer.the-variants as regular-variants
 use Rattle.segment.specs.declared.FineAnswer.the-variants as fine-variants
-use Rattle.domain.specs.Domain.{segment-hard-list}
-use Rattle.domain.specs.Answer.{scan-answer, scan-left, domain-answer, domain-left}
+use Rattle.domain.specs.Answer.{scan-answer, scan-list-after, domain-answer, marks-after, list-after}
 use Rattle.domain.specs.declared.ScanAnswer.the-variants as scan-variants
-use Rattle.job.specs.Text.{bytes}
+use Rattle.domain.specs.declared.Domain.{Domain}
+use Rattle.domain.specs.declared.DomainAnswer.the-variants as domain-variants
+use Rattle.text.specs.Text.{bytes}
 use Rattle.job.specs.Reading.{reading}
 use Rattle.job.specs.Output.{output-of}
 use Rattle.job.specs.declared.Reading.the-variants.{Read}
@@ -96,36 +98,44 @@ pub record Example-8 : Type 0 where
 
 -- the scan of M 45, a 14, b 44, N 16: w 6 lists 3, 6; w 3 lists 3; w 0 lists none. A place more stays as it was, and w 6 with one place is 7
 pub record Example-9 : Type 0 where
-  pub hard-6 : segment-hard-list (segment 45 14 44 16 6) ≡ 3 ∷ 6 ∷ []
-  pub hard-3 : segment-hard-list (segment 45 14 44 16 3) ≡ 3 ∷ []
-  pub hard-0 : segment-hard-list (segment 45 14 44 16 0) ≡ []
+  pub hard-6 : hard-list (segment 45 14 44 16 6) ≡ 3 ∷ 6 ∷ []
+  pub hard-3 : hard-list (segment 45 14 44 16 3) ≡ 3 ∷ []
+  pub hard-0 : hard-list (segment 45 14 44 16 0) ≡ []
   pub answered-6 : scan-answer 45 14 44 16 6 2 ≡ scan-variants.Listed 2
-  pub left-6 : (x y z : ℕ) → scan-left 45 14 44 16 6 (x ∷ y ∷ z ∷ []) ≡ 3 ∷ 6 ∷ z ∷ []
+  pub left-6 : (x y z : ℕ) → scan-list-after 45 14 44 16 6 (x ∷ y ∷ z ∷ []) ≡ 3 ∷ 6 ∷ z ∷ []
   pub answered-3 : scan-answer 45 14 44 16 3 1 ≡ scan-variants.Listed 1
-  pub left-3 : (x : ℕ) → scan-left 45 14 44 16 3 (x ∷ []) ≡ 3 ∷ []
+  pub left-3 : (x : ℕ) → scan-list-after 45 14 44 16 3 (x ∷ []) ≡ 3 ∷ []
   pub answered-0 : scan-answer 45 14 44 16 0 0 ≡ scan-variants.Listed 0
-  pub left-0 : (x : ℕ) → scan-left 45 14 44 16 0 (x ∷ []) ≡ x ∷ []
+  pub left-0 : (x : ℕ) → scan-list-after 45 14 44 16 0 (x ∷ []) ≡ x ∷ []
   pub too-few : scan-answer 45 14 44 16 6 1 ≡ scan-variants.Refused 7
-  pub left-too-few : (x : ℕ) → scan-left 45 14 44 16 6 (x ∷ []) ≡ x ∷ []
+  pub left-too-few : (x : ℕ) → scan-list-after 45 14 44 16 6 (x ∷ []) ≡ x ∷ []
 
--- job J, bytes in and bytes out; its domain M 45, c0 44, c1 31, s 0, N 16, w 3
+-- job J's domain: M 45, c0 44, c1 31, s 0, N 16, w 3
+abbrev pub J : Domain
+J = record { modulus = 45; value = 44; slope = 31; curve = pos 0; count = 16; window = 3 }
+
+-- job J, bytes in and bytes out
 pub record Example-10 : Type 0 where
   pub prints : output-of (bytes "modulus=45\nvalue=44\nslope=31\ncurve=0\ncount=16\nwindow=3\n")
       ≡ bytes "first=possible\nparts=12111111\nlisted=1\nargument=3\n"
   pub read : reading (bytes "modulus=45\nvalue=44\nslope=31\ncurve=0\ncount=16\nwindow=3\n")
-      ≡ Read (record { modulus = 45; value = 44; slope = 31; curve = pos 0; count = 16; window = 3 })
-  pub answered : domain-answer 45 44 31 (pos 0) 16 3 4096
-      ≡ record { refusal = 0; first = Possible; marks = 1 ∷ 2 ∷ 1 ∷ 1 ∷ 1 ∷ 1 ∷ 1 ∷ 1 ∷ []; listed = 1 }
-  pub left : (x y : ℕ) → domain-left 45 44 31 (pos 0) 16 3 (x ∷ y ∷ []) ≡ 3 ∷ y ∷ []
+      ≡ Read J
+  pub answered : domain-answer J 4096 ≡ domain-variants.Searched Possible 1
+  pub marks : (old : List ℕ) → marks-after J 4096 old ≡ 1 ∷ 2 ∷ 1 ∷ 1 ∷ 1 ∷ 1 ∷ 1 ∷ 1 ∷ []
+  pub left : (x y : ℕ) → list-after J (x ∷ y ∷ []) ≡ 3 ∷ y ∷ []
 
--- the domain M 45, c0 0, c1 0, s 1, N 8, w 1: parts 22111111, list 0, 1. With s -1 the same
+-- the domain M 45, c0 0, c1 0, N 8, w 1 with a curve
+abbrev pub bent : (s : ℤ) → Domain
+bent s = record { modulus = 45; value = 0; slope = 0; curve = s; count = 8; window = 1 }
+
+-- with s 1: parts 22111111, list 0, 1. With s -1 the same
 pub record Example-11 : Type 0 where
-  pub rising : domain-answer 45 0 0 (pos 1) 8 1 2
-      ≡ record { refusal = 0; first = Possible; marks = 2 ∷ 2 ∷ 1 ∷ 1 ∷ 1 ∷ 1 ∷ 1 ∷ 1 ∷ []; listed = 2 }
-  pub rising-left : (x y : ℕ) → domain-left 45 0 0 (pos 1) 8 1 (x ∷ y ∷ []) ≡ 0 ∷ 1 ∷ []
-  pub falling : domain-answer 45 0 0 (negsuc 0) 8 1 2
-      ≡ record { refusal = 0; first = Possible; marks = 2 ∷ 2 ∷ 1 ∷ 1 ∷ 1 ∷ 1 ∷ 1 ∷ 1 ∷ []; listed = 2 }
-  pub falling-left : (x y : ℕ) → domain-left 45 0 0 (negsuc 0) 8 1 (x ∷ y ∷ []) ≡ 0 ∷ 1 ∷ []
+  pub rising : domain-answer (bent (pos 1)) 2 ≡ domain-variants.Searched Possible 2
+  pub rising-marks : (old : List ℕ) → marks-after (bent (pos 1)) 2 old ≡ 2 ∷ 2 ∷ 1 ∷ 1 ∷ 1 ∷ 1 ∷ 1 ∷ 1 ∷ []
+  pub rising-left : (x y : ℕ) → list-after (bent (pos 1)) (x ∷ y ∷ []) ≡ 0 ∷ 1 ∷ []
+  pub falling : domain-answer (bent (negsuc 0)) 2 ≡ domain-variants.Searched Possible 2
+  pub falling-marks : (old : List ℕ) → marks-after (bent (negsuc 0)) 2 old ≡ 2 ∷ 2 ∷ 1 ∷ 1 ∷ 1 ∷ 1 ∷ 1 ∷ 1 ∷ []
+  pub falling-left : (x y : ℕ) → list-after (bent (negsuc 0)) (x ∷ y ∷ []) ≡ 0 ∷ 1 ∷ []
 
 -- all of them
 pub record Settled : Type 0 where

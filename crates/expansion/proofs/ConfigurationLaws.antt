@@ -1,19 +1,19 @@
 -- The configurations of every step below a modulus, in closed form: the two records of specs/Promise.antt on them.
 -- Assumes nothing.
-use mathlib.Core.Path.{_≡_, refl, sym, _∙_, ap, subst}
-use mathlib.Core.List.{List, [], _∷_, List·Memᴰ, Memᴰ·cast}
+use mathlib.Core.Path.{_≡_, refl, sym, _∙_, ap}
+use mathlib.Core.List.{[], _∷_, List·Memᴰ, Memᴰ·cast}
 use mathlib.Core.Logic.{⊎-elim}
 use Prim.Native.Nat.{ℕ, suc, _+_, _-_, _*_, _<_}
-use native.Mathlib.Nat.{eq-zero-or-pos}
+use native.Mathlib.Nat.{eq-zero-or-pos, zero-add}
 use native.Mathlib.Omega.{arith}
 use borrow.Author.Tests.{ne-eqb}
 use lib.ListN.{length, getD}
 use Rattle.numbers.proofs.Remainders.{quotient-positive}
 use Rattle.numbers.proofs.Lists.{Ascending-from, ascending}
 use Rattle.numbers.proofs.Lists.Ascending-from.{ascending-nil, ascending-cons}
-use Rattle.expansion.specs.Rows.{expansion, rows-from, denominators, last, remainder-at, denominator-at, quotient-at, remainder-before, denominator-before, period}
+use Rattle.expansion.specs.Rows.{expansion, rows-from, last, denominator-at, quotient-at, denominator-before, period}
 use Rattle.expansion.specs.Configurations.{Configuration, configuration, none, counts, last-of, regular, regular-from, fine, fine-from}
-use Rattle.expansion.specs.Promise.{Regular-right, Fine-right}
+use Rattle.expansion.specs.Promise.{Regular-correct, Fine-correct}
 use Rattle.expansion.proofs.Unrolling.{expansion-unrolled, first-row}
 use Rattle.expansion.proofs.Recurrences.{kept-first, several-rows}
 use Rattle.expansion.proofs.Regular.{relabelled, regular-many, regular-at, regular-final, regular-ascend}
@@ -39,53 +39,27 @@ module _ (M a : ℕ) (small : a < M) where
 
   regular-of-row : (i : ℕ) → i < last M a → getD (regular M a) i none ≡ configuration (denominator-at M a i + denominator-before M a i) i 0
   unfolding regular denominator-at denominator-before
-  regular-of-row i l = regular-at (expansion-unrolled M a) 0 i (omega (arith, last-index M a)) ∙ relabelled refl (omega arith) refl
+  regular-of-row i l = rw zero-add at (regular-at (expansion-unrolled M a) 0 i (omega (arith, last-index M a)))
 
   regular-last : last-of (regular M a) ≡ configuration (period M a) (last M a) 0
+  unfolding regular period denominator-at
   regular-last =
       let e : length (regular M a) - 1 ≡ last M a = omega (arith, regular-length) in
-      rw e (unfold regular period denominator-at in regular-final (expansion-unrolled M a) 0 (last M a) (last-index M a) ∙ relabelled refl (omega arith) refl)
+      rw e (rw zero-add at (regular-final (expansion-unrolled M a) 0 (last M a) (last-index M a)))
 
-  fine-has-right : (i t : ℕ) → i < last M a → t < quotient-at M a i
+  fine-has-correct : (i t : ℕ) → i < last M a → t < quotient-at M a i
       → List·Memᴰ (configuration (denominator-at M a i + denominator-before M a i + t * denominator-at M a i) i t) (fine M a)
   unfolding denominator-at denominator-before quotient-at
-  fine-has-right i t l h =
+  fine-has-correct i t l h =
       rw (fine-of-rows (several-rows (expansion-unrolled M a) (omega (arith, last-index M a))))
-      (Memᴰ·cast (relabelled refl (omega arith) refl) (fine-has (expansion-unrolled M a) 0 i t (omega (arith, last-index M a)) h))
-
-  abbrev Label : Configuration → ℕ → Type 0
-  Label c i =
-      (i < last M a) × (c .part < quotient-at M a i)
-      × (c .count ≡ denominator-at M a i + denominator-before M a i + c .part * denominator-at M a i)
-
-  fine-only-right : 0 < a → (c : Configuration) → List·Memᴰ c (fine M a) → Label c (c .index)
-  unfolding denominator-at denominator-before quotient-at
-  fine-only-right h c d =
-      let b = fine-only (expansion-unrolled M a) 0 c (rw (fine-of-rows h) at d) in
-      let e : c .index ≡ 0 + b .row-of = ap (λ (x : Configuration). x .index) (b .is) in
-      let f : b .row-of ≡ c .index = omega arith in
-      subst (Label c) f (omega (arith, b .within, last-index M a), b .below, ap (λ (x : Configuration). x .count) (b .is))
+      (rw zero-add at (fine-has (expansion-unrolled M a) 0 i t (omega (arith, last-index M a)) h))
 
   fine-last : 0 < a → last-of (fine M a) ≡ configuration (period M a) (last M a - 1) (quotient-at M a (last M a - 1) - 1)
   unfolding period denominator-at quotient-at
   fine-last h =
       let p = second-row M a small h in
       let e : suc (last M a - 1) ≡ last M a = omega arith in
-      rw (fine-of-rows h) (fine-final (expansion-unrolled M a) small 0 (last M a - 1) (omega (arith, last-index M a))
-      ∙ relabelled (ap (λ (n : ℕ). getD (denominators (expansion M a)) n 0) e) (omega arith) refl)
-
-  regular-first : getD (regular M a) 0 none ≡ configuration 1 0 0
-  unfolding denominator-at denominator-before
-  regular-first =
-      ⊎-elim (λ e. ap (λ (cs : List Configuration). getD cs 0 none) (regular-of-zero e))
-      (λ h. regular-of-row 0 (second-row M a small h) ∙ relabelled (omega (arith, first-row (expansion-unrolled M a) .1)) refl refl)
-      (eq-zero-or-pos a)
-
-  fine-first-right : getD (fine M a) 0 none ≡ configuration 1 0 0
-  fine-first-right =
-      ⊎-elim (λ e. ap (λ (cs : List Configuration). getD cs 0 none) (fine-of-zero e))
-      (λ h. rw (fine-of-rows h) (fine-first (expansion-unrolled M a) small h 0))
-      (eq-zero-or-pos a)
+      rw (fine-of-rows h) (rw (e, zero-add) at (fine-final (expansion-unrolled M a) small 0 (last M a - 1) (omega (arith, last-index M a))))
 
   pub regular-ascends : Ascending-from 1 (counts (regular M a))
   unfolding regular
@@ -100,31 +74,36 @@ module _ (M a : ℕ) (small : a < M) where
   quotient-some : (i : ℕ) → i < last M a → 0 < quotient-at M a i
   quotient-some i l =
       let b = beside M a small i l in
-      rw (b .drawn) (quotient-positive (remainder-before M a i) (remainder-at M a i) (b .not-zero) (omega (arith, kept M a small i (omega arith) .falls)))
+      rw (b .drawn) (quotient-positive _ _ (b .not-zero) (omega (arith, kept M a small i (omega arith) .falls)))
 
-  pub regular-right : Regular-right M a
-  regular-right =
+  pub regular-correct : Regular-correct M a
+  unfolding denominator-at denominator-before
+  regular-correct =
       record {
         many = regular-length;
         of-row = regular-of-row;
         last-one = regular-last;
-        first-one = regular-first;
-        ascend = ascending regular-ascends;
-        among-fine = λ i l. Memᴰ·cast (regular-of-row i l ∙ relabelled (omega arith) refl refl) (fine-has-right i 0 l (quotient-some i l));
-        last-among-fine =
-            ⊎-elim (λ e. ap (λ (cs : List Configuration). last-of cs .count) (regular-of-zero e ∙ sym (fine-of-zero e)))
-            (λ h. ap (λ (c : Configuration). c .count) regular-last ∙ sym (ap (λ (c : Configuration). c .count) (fine-last h)))
+        first-one =
+            ⊎-elim (λ e. rw (regular-of-zero e))
+            (λ h. regular-of-row 0 (second-row M a small h) ∙ relabelled (omega (arith, first-row (expansion-unrolled M a) .1)) refl refl)
             (eq-zero-or-pos a);
+        ascend = ascending regular-ascends;
+        among-fine = λ i l. Memᴰ·cast (regular-of-row i l ∙ relabelled (omega arith) refl refl) (fine-has-correct i 0 l (quotient-some i l));
+        last-among-fine = ⊎-elim (λ e. rw (regular-of-zero e, fine-of-zero e)) (λ h. rw (regular-last, fine-last h)) (eq-zero-or-pos a);
         of-zero = regular-of-zero;
       }
 
-  pub fine-right : Fine-right M a
-  fine-right =
+  pub fine-correct : Fine-correct M a
+  unfolding denominator-at denominator-before quotient-at
+  fine-correct =
       record {
-        has = fine-has-right;
-        only = fine-only-right;
+        has = fine-has-correct;
+        only = λ h c d.
+            let b = fine-only (expansion-unrolled M a) 0 c (rw (fine-of-rows h) at d) in
+            rw (ap (λ (x : Configuration). x .index) (b .is), zero-add)
+            (omega (arith, b .within, last-index M a), b .below, ap (λ (x : Configuration). x .count) (b .is));
         last-one = fine-last;
-        first-one = fine-first-right;
+        first-one = ⊎-elim (λ e. rw (fine-of-zero e)) (λ h. rw (fine-of-rows h) (fine-first (expansion-unrolled M a) small h 0)) (eq-zero-or-pos a);
         ascend = ascending fine-ascends;
         of-zero = fine-of-zero;
       }

@@ -30,10 +30,10 @@ fine-end i p q = refl
 -- ---- the parts of one row
 
 module _ (i p q : ℕ) where
-  abbrev part-of : ℕ → Configuration
+  abbrev pub part-of : ℕ → Configuration
   part-of t = configuration (q + p + t * q) i t
 
-  parts-many : (n t : ℕ) → length (parts-from n t i p q) ≡ n
+  pub parts-many : (n t : ℕ) → length (parts-from n t i p q) ≡ n
   unfolding parts-from
   parts-many zero t = refl
   parts-many (suc n) t = ap suc (parts-many n (suc t))
@@ -49,11 +49,13 @@ module _ (i p q : ℕ) where
   parts-have (suc n) t s l h =
       ⊎-elim (λ e. List·Memᴰ·head (ap part-of (sym e))) (λ k. List·Memᴰ·tail (parts-have n (suc t) s k (omega arith))) (eq-or-lt-of-le l)
 
-  parts-only : (c : Configuration) (n t : ℕ) → List·Memᴰ c (parts-from n t i p q) → (s : ℕ) × (s < t + n) × (c ≡ part-of s)
+  parts-only : (c : Configuration) (n t : ℕ) → List·Memᴰ c (parts-from n t i p q) → (c .part < t + n) × (c ≡ part-of (c .part))
   unfolding parts-from
   parts-only c zero t d = absurd (List·Memᴰ·not-nil d)
   parts-only c (suc n) t d =
-      ⊎-elim (λ e. (t, omega arith, e)) (λ e. let r = parts-only c n (suc t) e in (r .0, omega (arith, r .1), r .2)) (List·Memᴰ·cases-cons d)
+      ⊎-elim (λ e. let f = ap (λ (x : Configuration). x .part) e in (omega arith, e ∙ ap part-of (sym f)))
+      (λ e. let r = parts-only c n (suc t) e in (omega (arith, r .0), r .1))
+      (List·Memᴰ·cases-cons d)
 
   -- counts ascend through the parts and on, if what follows ascends from the count after them
   parts-ascend : (n t b : ℕ) (rest : List Configuration) → b ≤ q + p + t * q → 1 ≤ q
@@ -69,10 +71,8 @@ module _ (i p q : ℕ) where
 pub fine-ascend : {M t u p q : ℕ} {rs : List Row} → Rows t u p q rs → Kept M t u p q → (i n : ℕ) → n ≤ q + p
     → Ascending-from n (counts (fine-from i p rs))
 fine-ascend end k i n b = rw fine-end ascending-nil
-fine-ascend (next {t} {u} {p} {q} {rs} h r) k i n b =
-    rw fine-next
-    (parts-ascend i p q (t / u) 0 n (fine-from (suc i) q rs) (omega arith) (k .some)
-    (λ d e. fine-ascend r (kept-next k h) (suc i) d (omega arith)))
+fine-ascend (next {t} {u} {p} {q} h r) k i n b =
+    rw fine-next (parts-ascend i p q (t / u) 0 n _ (omega arith) (k .some) (λ d e. fine-ascend r (kept-next k h) (suc i) d (omega arith)))
 
 -- the configuration of label (j, s), where the rows begin with row i
 abbrev labelled : (i p : ℕ) → List Row → (j s : ℕ) → Configuration
@@ -83,15 +83,12 @@ labelled i p rs j s =
 pub fine-has : {t u p q : ℕ} {rs : List Row} → Rows t u p q rs → (i j s : ℕ) → suc j < length rs → s < getD (quotients rs) j 0
     → List·Memᴰ (labelled i p rs j s) (fine-from i p rs)
 fine-has end i j s l h = absurd (omega (arith, l))
-fine-has (next {t} {u} {p} {q} {rs} w r) i zero s l h =
+fine-has (next {t} {u} {p} {q} w r) i zero s l h =
     rw fine-next
-    (Memᴰ·append-left (fine-from (suc i) q rs)
-    (Memᴰ·cast (relabelled refl (omega arith) refl) (parts-have i p q (t / u) 0 s (omega arith) (omega (arith, h)))))
+    (Memᴰ·append-left _ (Memᴰ·cast (relabelled refl (omega arith) refl) (parts-have i p q (t / u) 0 s (omega arith) (omega (arith, h)))))
 fine-has (next {t} {u} {p} {q} w r) i (suc j) s l h =
     rw fine-next
-    (Memᴰ·append-right (parts-from (t / u) 0 i p q)
-    (Memᴰ·cast (relabelled refl (omega arith) refl)
-    (fine-has r (suc i) j s (omega (arith, l)) h)))
+    (Memᴰ·append-right (parts-from (t / u) 0 i p q) (Memᴰ·cast (relabelled refl (omega arith) refl) (fine-has r (suc i) j s (omega (arith, l)) h)))
 
 -- and nothing else
 pub record Labelled (i p : ℕ) (rs : List Row) (c : Configuration) : Type 0 where
@@ -102,28 +99,13 @@ pub record Labelled (i p : ℕ) (rs : List Row) (c : Configuration) : Type 0 whe
 
 pub fine-only : {t u p q : ℕ} {rs : List Row} → Rows t u p q rs → (i : ℕ) (c : Configuration) → List·Memᴰ c (fine-from i p rs) → Labelled i p rs c
 fine-only (end {t} {p} {q}) i c d = absurd (List·Memᴰ·not-nil (rw (fine-end i p q) at d))
-fine-only (next {t} {u} {p} {q} {rs} w r) i c d =
-    ⊎-elim here (λ e. later (fine-only r (suc i) c e)) (List·Memᴰ·append-cases (parts-from (t / u) 0 i p q) (rw fine-next at d))
-  where
-    here : List·Memᴰ c (parts-from (t / u) 0 i p q) → Labelled i p (row u q (t / u) ∷ rs) c
-    here e =
-        let s = parts-only i p q c (t / u) 0 e in
-        let f : c .part ≡ s .0 = ap (λ (x : Configuration). x .part) (s .2) in
-        record {
-          row-of = 0;
-          within = omega (arith, some-row r);
-          below = omega (arith, s .1);
-          is = s .2 ∙ relabelled (ap (λ (x : ℕ). q + p + x * q) (sym f)) (omega arith) (sym f);
-        }
-
-    later : Labelled (suc i) q rs c → Labelled i p (row u q (t / u) ∷ rs) c
-    later b =
-        record {
-          row-of = suc (b .row-of);
-          within = omega (arith, b .within);
-          below = b .below;
-          is = b .is ∙ relabelled refl (omega arith) refl;
-        }
+fine-only (next {t} {u} {p} {q} w r) i c d =
+    ⊎-elim
+    (λ e. let s = parts-only i p q c (t / u) 0 e in
+    record { row-of = 0; within = omega (arith, some-row r); below = omega (arith, s .0); is = s .1 ∙ relabelled refl (omega arith) refl })
+    (λ e. let b = fine-only r (suc i) c e in
+    record { row-of = suc (b .row-of); within = omega (arith, b .within); below = b .below; is = b .is ∙ relabelled refl (omega arith) refl })
+    (List·Memᴰ·append-cases (parts-from (t / u) 0 i p q) (rw fine-next at d))
 
 -- ---- the first one and the last one
 
@@ -134,8 +116,7 @@ first-part i p q (suc n) rest h = relabelled (omega arith) refl refl
 
 pub fine-first : {t u p q : ℕ} {rs : List Row} → Rows t u p q rs → u < t → 0 < u → (i : ℕ) → getD (fine-from i p rs) 0 none ≡ configuration (q + p) i 0
 fine-first end l h i = absurd (omega (arith, h))
-fine-first (next {t} {u} {p} {q} {rs} w r) l h i =
-    rw fine-next (first-part i p q (t / u) (fine-from (suc i) q rs) (quotient-positive t u w (omega (arith, l))))
+fine-first (next {t} {u} {p} {q} w r) l h i = rw fine-next (first-part i p q (t / u) _ (quotient-positive t u w (omega (arith, l))))
 
 fine-none : {t u p q : ℕ} {rs : List Row} → Rows t u p q rs → (i : ℕ) → u ≡ 0 → fine-from i p rs ≡ []
 fine-none (end {t} {p} {q}) i e = fine-end i p q
@@ -143,9 +124,7 @@ fine-none (next w r) i e = absurd (omega (arith, e, w))
 
 pub fine-some : {t u p q : ℕ} {rs : List Row} → Rows t u p q rs → (i : ℕ) → u < t → 0 < u → 0 < length (fine-from i p rs)
 fine-some end i l h = absurd (omega (arith, h))
-fine-some (next {t} {u} {p} {q} {rs} w r) i l h =
-    rw fine-next
-    (omega (arith, length-append (parts-from (t / u) 0 i p q) (fine-from (suc i) q rs), parts-many i p q (t / u) 0, quotient-positive t u w (omega (arith, l))))
+fine-some (next {t} {u} w r) i l h = rw (fine-next, length-append, parts-many) (omega (arith, quotient-positive t u w (omega (arith, l))))
 
 last-append : (xs ys : List Configuration) → 0 < length ys → last-of (xs ++ ys) ≡ last-of ys
 last-append xs ys h =
@@ -162,9 +141,8 @@ pub fine-final : {t u p q : ℕ} {rs : List Row} → Rows t u p q rs → u < t �
     → last-of (fine-from i p rs) ≡ configuration (getD (denominators rs) (suc j) 0) (i + j) (getD (quotients rs) j 0 - 1)
 fine-final end l i j e = absurd (omega (arith, e))
 fine-final (next {t} {u} {p} {q} w r) l i zero e =
-    let k : 1 ≤ t / u = quotient-positive t u w (omega (arith, l)) in
     rw (fine-next, fine-none r (suc i) (single-row r (omega (arith, e))), append-nil, first-row r .1)
-    (last-part i p q (t / u) k ∙ relabelled refl (omega arith) refl)
+    (last-part i p q (t / u) (quotient-positive t u w (omega (arith, l))) ∙ relabelled refl (omega arith) refl)
 fine-final (next {t} {u} {p} {q} {rs} w r) l i (suc j) e =
     rw fine-next
     (last-append (parts-from (t / u) 0 i p q) (fine-from (suc i) q rs) (fine-some r (suc i) (mod-lt t w) (several-rows r (omega (arith, e))))

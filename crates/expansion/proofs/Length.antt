@@ -19,10 +19,8 @@ grown end l = (omega (arith, fib-next 0, fib-zero, fib-one), inl refl)
 grown (next {t} {u} {rs = rs} w r) l = let g = grown r (mod-lt t w) in (joined (g .0) (g .1), inr (g .0))
   where
     joined : fib (suc (length rs)) ≤ u → (t % u ≡ 0) ⊎ (fib (length rs) ≤ t % u) → fib (suc (suc (length rs))) ≤ t
-    joined g (inl e) =
-        omega (arith, fib-next (length rs), fib-up (length rs), div-add-mod' t u, mul-le-mul-right u (quotient-two t u w l e))
-    joined g (inr h) =
-        omega (arith, fib-next (length rs), div-add-mod' t u, mul-le-mul-right u (quotient-positive t u w (omega (arith, l))))
+    joined g (inl e) = omega (arith, fib-next (length rs), fib-up (length rs), div-add-mod' t u, mul-le-mul-right u (quotient-two t u w l e))
+    joined g (inr h) = omega (arith, fib-next (length rs), div-add-mod' t u, mul-le-mul-right u (quotient-positive t u w (omega (arith, l))))
 
 -- an expansion of n rows has a modulus of at least fib (n + 1)
 pub rows-bound : (M a : ℕ) → a < M → fib (suc (length (expansion M a))) ≤ M

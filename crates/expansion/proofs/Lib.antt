@@ -1,11 +1,14 @@
-pub mod Unrolling
-pub mod Recurrences
-pub mod Length
-pub mod RowLaws
-pub mod Period
-pub mod Regular
-pub mod Fine
-pub mod ConfigurationLaws
-pub mod Answers
+mod Unrolling
+mod Recurrences
+mod Length
+mod RowLaws
+mod Period
+mod Regular
+mod Fine
+mod ConfigurationLaws
+mod Reaching
+mod Searches
+mod Filling
+mod Answers
+pub mod Laws
 pub mod Promises
-pub mod Filling

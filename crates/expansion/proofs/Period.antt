@@ -1,22 +1,22 @@
 -- The last denominator is M / gcd(a, M), and two multiples of a agree modulo M exactly if the last denominator divides their distance:
--- the record `Period-right` of specs/Promise.antt. Assumes nothing.
-use mathlib.Core.Path.{_≡_, refl, sym, _∙_, ap, subst}
+-- the record `Period-correct` of specs/Promise.antt. Assumes nothing.
+use mathlib.Core.Path.{_≡_, refl, sym, _∙_, ap}
 use mathlib.Core.Logic.{_↔_}
-use Prim.Native.Nat.{ℕ, _+_, _*_, _/_, _%_, _<_, _∣_}
+use Prim.Native.Nat.{ℕ, _+_, _*_, _%_, _<_, _∣_}
 use native.Mathlib.Nat.{div-eq-of-eq-mul-left, dvd-of-mul-dvd-mul-left, pos-of-dvd-of-pos, mul-dvd-mul, mul-add, mul-comm, dvd-refl, le-of-dvd}
 use native.Mathlib.Omega.{arith}
 use Rattle.numbers.specs.Divisors.{gcd}
 use Rattle.numbers.proofs.Remainders.{divides-if-same, same-if-divides}
-use Rattle.numbers.proofs.Divisors.{gcd-zero, gcd-step, gcd-right, divides-scaled}
+use Rattle.numbers.proofs.Divisors.{gcd-zero, gcd-step, gcd-correct, divides-scaled}
 use Rattle.expansion.specs.Rows.{last, remainder-at, denominator-at, remainder-before, period}
-use Rattle.expansion.specs.Promise.{Period-right}
+use Rattle.expansion.specs.Promise.{Period-correct}
 use Rattle.expansion.proofs.Unrolling.{expansion-unrolled, at-each}
 use Rattle.expansion.proofs.Recurrences.{Kept}
-use Rattle.expansion.proofs.RowLaws.{last-index, kept, rows-right}
+use Rattle.expansion.proofs.RowLaws.{last-index, kept, rows-correct}
 
 module _ (M a : ℕ) (small : a < M) where
   gcd-positive : 0 < gcd a M
-  gcd-positive = pos-of-dvd-of-pos (gcd-right a M .divides-second) (omega arith)
+  gcd-positive = pos-of-dvd-of-pos (gcd-correct a M .divides-second) (omega arith)
 
   -- a row that has the remainder 0 and keeps the divisors of a and M
   at-zero : {t u p q : ℕ} → Kept M t u p q → gcd u t ≡ gcd a M → u ≡ 0 → q * gcd a M ≡ M
@@ -30,39 +30,28 @@ module _ (M a : ℕ) (small : a < M) where
       at-zero (kept M a small (last M a) (omega arith))
       (unfold remainder-before in
       at-each (λ t u p q. gcd u t ≡ gcd a M) (λ t u p q h e. sym (gcd-step u t h) ∙ e) (expansion-unrolled M a) refl (last M a) (omega (arith, last-index M a)))
-      (rows-right M a small .last-remainder)
-
-  period-is : period M a ≡ M / gcd a M
-  period-is = sym (div-eq-of-eq-mul-left gcd-positive (sym period-gcd))
+      (rows-correct M a small .last-remainder)
 
   modulus-is : gcd a M * period M a ≡ M
   modulus-is = mul-comm (gcd a M) (period M a) ∙ period-gcd
 
   -- multiples of a agree modulo M exactly where the period divides the distance
-  pub agree : (x y : ℕ) → (a * (x + y) % M ≡ a * x % M) ↔ (period M a ∣ y)
-  agree x y = (apart, together)
-    where
-      apart : a * (x + y) % M ≡ a * x % M → period M a ∣ y
-      apart e =
-          let d : M ∣ a * y = divides-if-same M (a * x) (a * y) (rw mul-add at e) in
-          dvd-of-mul-dvd-mul-left (period M a) gcd-positive
-          (subst (λ (n : ℕ). n ∣ gcd a M * y) (sym modulus-is) (divides-scaled M a y d))
+  agree : (x y : ℕ) → (a * (x + y) % M ≡ a * x % M) ↔ (period M a ∣ y)
+  agree x y = (
+    λ e. dvd-of-mul-dvd-mul-left (period M a) gcd-positive (rw modulus-is (divides-scaled M a y (divides-if-same M (a * x) (a * y) (rw mul-add at e)))),
+    λ d. rw mul-add (same-if-divides M (a * x) (a * y) (rw modulus-is at (mul-dvd-mul (gcd a M) (period M a) (gcd-correct a M .divides-first) d))),
+  )
 
-      together : period M a ∣ y → a * (x + y) % M ≡ a * x % M
-      together d =
-          rw mul-add
-          (same-if-divides M (a * x) (a * y)
-          (subst (λ (n : ℕ). n ∣ a * y) modulus-is (mul-dvd-mul (gcd a M) (period M a) (gcd-right a M .divides-first) d)))
-
-  pub period-right : Period-right M a
+  pub period-correct : Period-correct M a
   unfolding period
-  period-right =
+  period-correct =
       record {
         last-denominator = refl;
-        divisor = gcd-right a M;
+        divisor = gcd-correct a M;
         divisor-of-zero = gcd-zero M;
-        by-divisor = period-is;
+        by-divisor = sym (div-eq-of-eq-mul-left gcd-positive (sym period-gcd));
         exact = period-gcd;
         repeats = λ x. agree x (period M a) .1 (dvd-refl (period M a));
+        agree = agree;
         not-before = λ x y h l e. omega (arith, le-of-dvd h (agree x y .0 e));
       }

@@ -1,17 +1,20 @@
 -- All that is promised of the expansion. Assumes nothing.
 use Rattle.expansion.specs.Promise.{Promised}
-use Rattle.expansion.proofs.RowLaws.{rows-right, rows-few}
-use Rattle.expansion.proofs.Period.{period-right}
-use Rattle.expansion.proofs.ConfigurationLaws.{regular-right, fine-right}
-use Rattle.expansion.proofs.Answers.{answer-right}
+use Rattle.expansion.proofs.RowLaws.{rows-correct, rows-few}
+use Rattle.expansion.proofs.Period.{period-correct}
+use Rattle.expansion.proofs.ConfigurationLaws.{regular-correct, fine-correct}
+use Rattle.expansion.proofs.Searches.{searches-correct}
+use Rattle.expansion.proofs.Answers.{number, answer-correct}
 
 pub promised : Promised
 promised =
     record {
-      rows = rows-right;
+      rows = rows-correct;
       few = rows-few;
-      period = period-right;
-      regular = regular-right;
-      fine = fine-right;
-      answers = answer-right;
+      period = period-correct;
+      regular = regular-correct;
+      fine = fine-correct;
+      searches = searches-correct;
+      answers = answer-correct;
+      refusals = number;
     }

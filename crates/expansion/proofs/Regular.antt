@@ -37,9 +37,7 @@ pub regular-at : {t u p q : ℕ} {rs : List Row} → Rows t u p q rs → (i j : 
     → getD (regular-from i p rs) j none ≡ configuration (getD (denominators rs) j 0 + getD (p ∷ denominators rs) j 0) (i + j) 0
 regular-at end i j l = absurd (omega (arith, l))
 regular-at (next h r) i zero l = rw regular-next (relabelled refl (omega arith) refl)
-regular-at (next h r) i (suc j) l =
-    rw regular-next
-    (regular-at r (suc i) j (omega (arith, l)) ∙ relabelled refl (omega arith) refl)
+regular-at (next h r) i (suc j) l = rw regular-next (regular-at r (suc i) j (omega (arith, l)) ∙ relabelled refl (omega arith) refl)
 
 -- the one of the last row
 pub regular-final : {t u p q : ℕ} {rs : List Row} → Rows t u p q rs → (i j : ℕ) → suc j ≡ length rs
@@ -47,9 +45,7 @@ pub regular-final : {t u p q : ℕ} {rs : List Row} → Rows t u p q rs → (i j
 regular-final (end {t} {p} {q}) i zero e = rw regular-end (relabelled refl (omega arith) refl)
 regular-final end i (suc j) e = absurd (omega (arith, e))
 regular-final (next h r) i zero e = absurd (omega (arith, e, some-row r))
-regular-final (next h r) i (suc j) e =
-    rw regular-next
-    (regular-final r (suc i) j (omega (arith, e)) ∙ relabelled refl (omega arith) refl)
+regular-final (next h r) i (suc j) e = rw regular-next (regular-final r (suc i) j (omega (arith, e)) ∙ relabelled refl (omega arith) refl)
 
 -- counts ascend from q + p on, or from q in the last row
 pub regular-ascend : {M t u p q : ℕ} {rs : List Row} → Rows t u p q rs → Kept M t u p q → (i n : ℕ) → n ≤ q + p → (u ≡ 0 → n ≤ q)

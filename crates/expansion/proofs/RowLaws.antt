@@ -1,4 +1,4 @@
--- The rows of the expansion of every step below a modulus, by index: the records `Rows-right` and `Rows-few` of specs/Promise.antt.
+-- The rows of the expansion of every step below a modulus, by index: the records `Rows-correct` and `Rows-few` of specs/Promise.antt.
 -- Assumes nothing.
 use mathlib.Core.Path.{_≡_, refl, sym}
 use Prim.Native.Nat.{ℕ, suc, _-_, _≤_, _<_}
@@ -6,7 +6,7 @@ use native.Mathlib.Nat.{lt-of-not-le}
 use native.Mathlib.Omega.{arith}
 use lib.ListN.{length}
 use Rattle.expansion.specs.Rows.{expansion, last, remainder-at, denominator-at, quotient-at, remainder-before, denominator-before}
-use Rattle.expansion.specs.Promise.{Rows-right, Rows-few}
+use Rattle.expansion.specs.Promise.{Rows-correct, Rows-few}
 use Rattle.expansion.proofs.Unrolling.{expansion-unrolled, at-each, some-row, first-row}
 use Rattle.expansion.proofs.Recurrences.{Kept, kept-first, kept-next, Neighbours, neighbours, rejoined, single-row, last-row, last-drawn}
 use Rattle.expansion.proofs.Length.{few-rows}
@@ -31,9 +31,9 @@ module _ (M a : ℕ) (small : a < M) where
   pub second-row : 0 < a → 0 < last M a
   second-row h = lt-of-not-le (λ l. omega (arith, h, single-row (expansion-unrolled M a) (omega (arith, last-index M a))))
 
-  pub rows-right : Rows-right M a
+  pub rows-correct : Rows-correct M a
   unfolding remainder-at denominator-at quotient-at remainder-before denominator-before
-  rows-right =
+  rows-correct =
       record {
         first-remainder-before = refl;
         first-denominator-before = refl;

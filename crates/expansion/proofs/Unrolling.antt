@@ -6,7 +6,7 @@ use Prim.Native.Nat.{ℕ, zero, suc, _+_, _*_, _/_, _%_, _≤_, _<_}
 use native.Mathlib.Nat.{mod-lt, not-suc-le-zero}
 use native.Mathlib.Omega.{arith}
 use lib.ListN.{length, getD}
-use Rattle.expansion.specs.Rows.{Row, row, rows-from, expansion, remainders, denominators}
+use Rattle.expansion.specs.Rows.{Row, row, rows-from, rows, expansion, remainders, denominators}
 
 -- the rows that follow from the remainders t, u and the denominators p, q
 pub data Rows : (t u p q : ℕ) → List Row → Type 0 where
@@ -20,10 +20,6 @@ enough (suc n) t zero p q h = end
 enough (suc n) t (suc u) p q h =
     let r : t % suc u < suc u = mod-lt t (omega arith) in
     next {u = suc u} (omega arith) (enough n (suc u) (t % suc u) q (p + t / suc u * q) (omega arith))
-
--- the rows that are still to come where a loop holds these numbers
-abbrev pub rows : (t u p q : ℕ) → List Row
-rows t u p q = rows-from (suc u) t u p q
 
 pub unrolled : (t u p q : ℕ) → Rows t u p q (rows t u p q)
 unrolled t u p q = enough (suc u) t u p q (omega arith)

@@ -1,4 +1,5 @@
 pub mod Rows
 pub mod Configurations
+pub mod Reached
 pub mod Answer
 pub mod Promise

@@ -3,18 +3,21 @@
 use mathlib.Core.Path.{_≡_}
 use mathlib.Core.List.{List, [], _∷_, List·Memᴰ}
 use mathlib.Core.Logic.{_↔_, _⊎_}
-use Prim.Native.Nat.{ℕ, suc, _+_, _-_, _*_, _/_, _%_, _^_, _≤_, _<_}
+use Prim.Native.Nat.{ℕ, suc, _+_, _-_, _*_, _/_, _%_, _^_, _≤_, _<_, _∣_}
 use lib.ListN.{length, getD, replicate}
+use Rattle.numbers.specs.Checklist.{Condition, condition, Refused-by}
 use Rattle.numbers.specs.Divisors.{gcd, Greatest-common-divisor}
 use Rattle.numbers.specs.Lists.{Ascending}
 use Rattle.expansion.specs.Rows.{expansion, last, remainder-at, denominator-at, quotient-at, remainder-before, denominator-before, period}
 use Rattle.expansion.specs.Configurations.{Configuration, configuration, none, counts, last-of, regular, fine}
-use Rattle.expansion.specs.Answer.{answer}
+use Rattle.expansion.specs.Reached.{Search, configurations-of, reached}
+use Rattle.expansion.specs.Reached.Search.{regular as regular-search, fine as fine-search}
+use Rattle.expansion.specs.Answer.{refusal, answer}
 use Rattle.expansion.specs.declared.Table.{Table}
 use Rattle.expansion.specs.declared.Answer.{Answer}
 
 -- the rows are those of the Euclidean algorithm, from theta(-1) = M, theta(0) = a, q(-1) = 0 and q(0) = 1 to the first remainder 0
-pub record Rows-right (M a : ℕ) : Type 0 where
+pub record Rows-correct (M a : ℕ) : Type 0 where
   pub first-remainder-before : remainder-before M a 0 ≡ M
   pub first-denominator-before : denominator-before M a 0 ≡ 0
   pub next-remainder-before : (i : ℕ) → remainder-before M a (suc i) ≡ remainder-at M a i
@@ -46,7 +49,7 @@ pub record Rows-few (M a : ℕ) : Type 0 where
   pub last-at-most-88 : M ≤ 2 ^ 62 → last M a ≤ 88
 
 -- the period P = q(m) is M / gcd(a, M); after it the multiples of a modulo M repeat, and after no smaller number
-pub record Period-right (M a : ℕ) : Type 0 where
+pub record Period-correct (M a : ℕ) : Type 0 where
   pub last-denominator : period M a ≡ denominator-at M a (last M a)
   pub divisor : Greatest-common-divisor a M (gcd a M)
   pub divisor-of-zero : gcd 0 M ≡ M
@@ -55,9 +58,11 @@ pub record Period-right (M a : ℕ) : Type 0 where
   pub exact : period M a * gcd a M ≡ M
   pub repeats : (x : ℕ) → a * (x + period M a) % M ≡ a * x % M
   pub not-before : (x y : ℕ) → 0 < y → y < period M a → a * (x + y) % M ≡ a * x % M → ⊥
+  -- so that multiples agree exactly where the period divides their distance
+  pub agree : (x y : ℕ) → (a * (x + y) % M ≡ a * x % M) ↔ (period M a ∣ y)
 
 -- the regular configurations: q(i) + q(i-1) for each i with theta(i) not 0, then P with the index m
-pub record Regular-right (M a : ℕ) : Type 0 where
+pub record Regular-correct (M a : ℕ) : Type 0 where
   pub many : length (regular M a) ≡ suc (last M a)
   pub of-row : (i : ℕ) → i < last M a → getD (regular M a) i none ≡ configuration (denominator-at M a i + denominator-before M a i) i 0
   pub last-one : last-of (regular M a) ≡ configuration (period M a) (last M a) 0
@@ -70,7 +75,7 @@ pub record Regular-right (M a : ℕ) : Type 0 where
   pub of-zero : a ≡ 0 → regular M a ≡ configuration 1 0 0 ∷ []
 
 -- the fine configurations: q(i) + q(i-1) + t·q(i) for each i with theta(i) not 0 and each t below k(i+1)
-pub record Fine-right (M a : ℕ) : Type 0 where
+pub record Fine-correct (M a : ℕ) : Type 0 where
   pub has : (i t : ℕ) → i < last M a → t < quotient-at M a i
       → List·Memᴰ (configuration (denominator-at M a i + denominator-before M a i + t * denominator-at M a i) i t) (fine M a)
   pub only : 0 < a → (c : Configuration) → List·Memᴰ c (fine M a)
@@ -83,33 +88,63 @@ pub record Fine-right (M a : ℕ) : Type 0 where
   -- where the step is 0, the one of a single point
   pub of-zero : a ≡ 0 → fine M a ≡ configuration 1 0 0 ∷ []
 
+-- of a search's configurations the one reached: the first with N points or more, or that of the period where N exceeds it
+pub record Reached-correct (configurations : List Configuration) (period N : ℕ) (c : Configuration) : Type 0 where
+  pub some : 0 < c .count
+  pub among : List·Memᴰ c configurations
+  pub enough : N ≤ period → N ≤ c .count
+  pub first : (d : Configuration) → List·Memᴰ d configurations → N ≤ d .count → c .count ≤ d .count
+  pub at-period : period < N → c .count ≡ period
+  pub within : c .count ≤ period
+
+-- both searches: each reaches one of its own configurations; a regular one is labelled by its index alone, at most 29 for up to 1,048,576 points;
+-- fewer points are reached for a smaller count, and by the fine search no more than by either
+pub record Searches-correct (M a : ℕ) : Type 0 where
+  pub regular-ones : configurations-of regular-search M a ≡ regular M a
+  pub fine-ones : configurations-of fine-search M a ≡ fine M a
+  pub reaches : (k : Search) (N : ℕ) → Reached-correct (configurations-of k M a) (period M a) N (reached k M a N)
+  pub regular-label : (N : ℕ) → reached regular-search M a N ≡ configuration (reached regular-search M a N .count) (reached regular-search M a N .index) 0
+  pub few-quotients : (N : ℕ) → N ≤ 1048576 → reached regular-search M a N .index ≤ 29
+  pub same-sooner : (k : Search) (N N′ : ℕ) → N′ ≤ N → reached k M a N′ .count ≤ reached k M a N .count
+  pub fine-sooner : (k : Search) (N N′ : ℕ) → N′ ≤ N → reached fine-search M a N′ .count ≤ reached k M a N .count
+
 -- a column of the table: 89 places, the rows from 0 to m, and zeros after them
-pub record Column-right (M a : ℕ) (column : List ℕ) (entry : ℕ → ℕ) : Type 0 where
+pub record Column-correct (M a : ℕ) (column : List ℕ) (entry : ℕ → ℕ) : Type 0 where
   pub places : length column ≡ 89
   pub of-row : (i : ℕ) → i ≤ last M a → getD column i 0 ≡ entry i
   pub after : (i : ℕ) → last M a < i → getD column i 0 ≡ 0
 
 -- the table of an accepted modulus and step
-pub record Table-right (M a : ℕ) (table : Table) : Type 0 where
-  pub remainders : Column-right M a (table .remainders) (remainder-at M a)
-  pub denominators : Column-right M a (table .denominators) (denominator-at M a)
-  pub quotients : Column-right M a (table .quotients) (quotient-at M a)
+pub record Table-correct (M a : ℕ) (table : Table) : Type 0 where
+  pub remainders : Column-correct M a (table .remainders) (remainder-at M a)
+  pub denominators : Column-correct M a (table .denominators) (denominator-at M a)
+  pub quotients : Column-correct M a (table .quotients) (quotient-at M a)
   pub last-index : table .last ≡ last M a
 
--- an answer of the call: 1 or else 2 exactly if its condition holds, with everything else 0, and the table exactly where neither does
-pub record Answer-right (M a : ℕ) (answered : Answer) : Type 0 where
+-- what is asked of a modulus and a step, in this order, with the number of each refusal
+abbrev pub Asked : (M a : ℕ) → List Condition
+Asked M a = condition 1 ((2 ≤ M) × (M ≤ 2 ^ 62)) ∷ condition 2 (a < M) ∷ []
+
+-- an answer of the call: a number exactly where its condition is the first that does not hold, with everything else 0; the table exactly where
+-- every condition holds
+pub record Answer-correct (M a : ℕ) (answered : Answer) : Type 0 where
+  pub refused : (n : ℕ) → (answered .refusal ≡ suc n) ↔ Refused-by (Asked M a) (suc n)
+  -- in numbers: 1 for a modulus outside 2 to 2^62, 2 for a step not below another modulus
   pub modulus-refused : (answered .refusal ≡ 1) ↔ ((M < 2) ⊎ (2 ^ 62 < M))
   pub step-refused : (answered .refusal ≡ 2) ↔ ((2 ≤ M) × (M ≤ 2 ^ 62) × (M ≤ a))
   pub accepted : (answered .refusal ≡ 0) ↔ ((2 ≤ M) × (M ≤ 2 ^ 62) × (a < M))
   pub refused-empty : 0 < answered .refusal
       → answered .table ≡ record { remainders = replicate 89 0; denominators = replicate 89 0; quotients = replicate 89 0; last = 0 }
-  pub accepted-table : answered .refusal ≡ 0 → Table-right M a (answered .table)
+  pub accepted-table : answered .refusal ≡ 0 → Table-correct M a (answered .table)
 
 -- all of it: of every step below a modulus, and the answer of every two numbers
 pub record Promised : Type 0 where
-  pub rows : (M a : ℕ) → a < M → Rows-right M a
+  pub rows : (M a : ℕ) → a < M → Rows-correct M a
   pub few : (M a : ℕ) → a < M → Rows-few M a
-  pub period : (M a : ℕ) → a < M → Period-right M a
-  pub regular : (M a : ℕ) → a < M → Regular-right M a
-  pub fine : (M a : ℕ) → a < M → Fine-right M a
-  pub answers : (M a : ℕ) → Answer-right M a (answer M a)
+  pub period : (M a : ℕ) → a < M → Period-correct M a
+  pub regular : (M a : ℕ) → a < M → Regular-correct M a
+  pub fine : (M a : ℕ) → a < M → Fine-correct M a
+  pub searches : (M a : ℕ) → a < M → Searches-correct M a
+  pub answers : (M a : ℕ) → Answer-correct M a (answer M a)
+  -- the test of a modulus and a step gives the number that the answer has
+  pub refusals : (M a : ℕ) → refusal M a ≡ answer M a .refusal

@@ -19,9 +19,13 @@ rows-from zero t u p q = []
 rows-from (suc n) t zero p q = row 0 q 0 ∷ []
 rows-from (suc n) t (suc u) p q = row (suc u) q (t / suc u) ∷ rows-from n (suc u) (t % suc u) q (p + t / suc u * q)
 
+-- the rows that are still to come where a program holds these numbers
+abbrev pub rows : (before remainder denominator-before denominator : ℕ) → List Row
+rows t u p q = rows-from (suc u) t u p q
+
 -- the expansion of a/M: theta(-1) = M, theta(0) = a, q(-1) = 0, q(0) = 1
 unfoldable pub expansion : (M a : ℕ) → List Row
-expansion M a = rows-from (suc a) M a 0 1
+expansion M a = rows M a 0 1
 
 -- its columns
 abbrev pub remainders : List Row → List ℕ

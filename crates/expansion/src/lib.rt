@@ -2,7 +2,7 @@
 ghost use mathlib.Core.Path.{_≡_};
 ghost use Prim.Native.Nat.{_≤_, _<_, _^_};
 ghost use Rattle.expansion.specs.Rows.{expansion};
-ghost use Rattle.expansion.specs.Answer.{answer, table-of, refused};
+ghost use Rattle.expansion.specs.Answer.{refusal, table-of, refused, answer};
 
 // Rows 0 to last: remainder, denominator of the convergent, quotient drawn. Every place after the last row is 0.
 pub struct Table {
@@ -12,7 +12,7 @@ pub struct Table {
     pub last: usize,
 }
 
-// The table, or the number of a refusal beside a table of zeros.
+// The table, or the number of a refusal beside the table as it is before it is filled.
 pub struct Answer {
     pub table: Table,
     pub refusal: u32,
@@ -21,23 +21,35 @@ pub struct Answer {
 // 2^62
 const LARGEST_MODULUS: u64 = 4611686018427387904;
 
-// The expansion of a step below a modulus up to 2^62. Refused: 1 where the modulus is outside 2 to 2^62, else 2 where the step is not below it.
+// The expansion of a step below a modulus up to 2^62, or a refusal.
 pub fn expand(modulus: u64, step: u64) -> Answer
     ensures { λ r. ⌜ r ≡ answer modulus step ⌝ }
 {
-    if modulus < 2 {
-        return refuse(1);
-    }
-    if LARGEST_MODULUS < modulus {
-        return refuse(1);
-    }
-    if modulus <= step {
-        return refuse(2);
+    let number = refuse(modulus, step);
+    if number != 0 {
+        return refused(number);
     }
     Answer {
         table: fill(modulus, step),
         refusal: 0,
     }
+}
+
+// The number of the first condition that does not hold: 1 for a modulus outside 2 to 2^62, else 2 for a step that is not below it. 0 where both
+// hold.
+pub fn refuse(modulus: u64, step: u64) -> u32
+    ensures { λ r. ⌜ r ≡ refusal modulus step ⌝ }
+{
+    if modulus < 2 {
+        return 1;
+    }
+    if LARGEST_MODULUS < modulus {
+        return 1;
+    }
+    if modulus <= step {
+        return 2;
+    }
+    0
 }
 
 // The rows of an accepted modulus and step, to the first remainder 0.
@@ -79,7 +91,7 @@ fn fill(modulus: u64, step: u64) -> Table
 }
 
 // A refusal carries its number alone.
-fn refuse(number: u32) -> Answer
+fn refused(number: u32) -> Answer
     ensures { λ r. ⌜ r ≡ refused number ⌝ }
 {
     Answer {

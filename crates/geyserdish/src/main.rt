@@ -5,7 +5,7 @@
 fn main() {
     let mut input = io::buffer();
     let length = io::read_full(libc::STDIN_FILENO, &mut input);
-    let mut output = [0u8; 69674];
+    let mut output = [0u8; job::LONGEST];
     let printed = job::run_job(&input[..length], &mut output);
     io::write_all(libc::STDOUT_FILENO, &output[..printed]);
 }

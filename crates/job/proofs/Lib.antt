@@ -1,12 +1,4 @@
-pub mod Names
-pub mod Steps
-pub mod Signs
-pub mod Decimals
-pub mod Numbers
-pub mod Lines
-pub mod Writings
-pub mod Outputs
-pub mod Digits
-pub mod Texts
-pub mod Renderings
+mod Reports
+mod Outputs
+mod Renderings
 pub mod Promises

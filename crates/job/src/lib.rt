@@ -3,36 +3,23 @@
 // A job names a domain on six lines in fixed order, modulus=, value=, slope=, curve=, count= and window=, each with a decimal number and a
 // line feed. All else is refused by 8, before all other refusals.
 ghost use mathlib.Core.Path.{_≡_};
-ghost use Prim.Native.Nat.{_≤_};
 ghost use lib.ListN.{length};
-ghost use Rattle.numbers.specs.Lists.{in-front};
-ghost use Rattle.job.specs.Reading.{reading};
-ghost use Rattle.job.specs.Output.{output-with, output-of};
-ghost use Rattle.job.specs.declared.Reading.the-variants.{Read};
+ghost use lib.Seq.{sets};
+ghost use Rattle.numbers.specs.Lists.{overwrite-front, place-after};
+ghost use Rattle.job.specs.Reading.{rest-from, reading};
+ghost use Rattle.job.specs.Output.{printed, output-of};
 
-mod fields;
-mod writing;
+mod report;
 
-use fields::Found;
-use fields::FoundCurve;
-use fields::curve;
-use fields::field;
-use writing::put_line;
-use writing::put_told;
+use domain::Domain;
+use report::put_report;
 
-// The six numbers of a job.
-pub struct Job {
-    pub modulus: u64,
-    pub value: u64,
-    pub slope: u64,
-    pub curve: i64,
-    pub count: u64,
-    pub window: u64,
-}
+// The longest answer: 4,096 arguments of seven digits.
+pub const LONGEST: usize = 69674;
 
 // A text is that of a job, or it is malformed.
 pub enum Reading {
-    Read(Job),
+    Read(Domain),
     Malformed,
 }
 
@@ -41,32 +28,40 @@ pub enum Reading {
 pub fn read_job(text: &[u8]) -> Reading
     ensures { λ r. ⌜ r ≡ reading (now (text .entry)) ⌝ }
 {
-    let Found::Of(modulus, after_modulus) = field(text, 0, b"modulus=") else {
+    let text::Found::Number(modulus, after_modulus) = text::field(text, 0, b"modulus=") else {
         return Reading::Malformed;
     };
-    let Found::Of(value, after_value) = field(text, after_modulus, b"value=") else {
+    let text::Found::Number(value, after_value) = text::field(text, after_modulus, b"value=") else {
         return Reading::Malformed;
     };
-    let Found::Of(slope, after_slope) = field(text, after_value, b"slope=") else {
+    let text::Found::Number(slope, after_slope) = text::field(text, after_value, b"slope=") else {
         return Reading::Malformed;
     };
-    let FoundCurve::Of(bend, after_curve) = curve(text, after_slope, b"curve=") else {
+    read_rest(text, after_slope, modulus, value, slope)
+}
+
+// The last three lines, after those of the modulus, the value and the slope.
+fn read_rest(text: &[u8], at: usize, modulus: u64, value: u64, slope: u64) -> Reading
+    ensures { λ r. ⌜ r ≡ rest-from at modulus value slope (now (text .entry)) ⌝ }
+{
+    let text::FoundSigned::Number(curve, after_curve) = text::signed_field(text, at, b"curve=")
+    else {
         return Reading::Malformed;
     };
-    let Found::Of(count, after_count) = field(text, after_curve, b"count=") else {
+    let text::Found::Number(count, after_count) = text::field(text, after_curve, b"count=") else {
         return Reading::Malformed;
     };
-    let Found::Of(window, end) = field(text, after_count, b"window=") else {
+    let text::Found::Number(window, end) = text::field(text, after_count, b"window=") else {
         return Reading::Malformed;
     };
     if end < text.len() {
         return Reading::Malformed;
     }
-    Reading::Read(Job {
+    Reading::Read(Domain {
         modulus: modulus,
         value: value,
         slope: slope,
-        curve: bend,
+        curve: curve,
         count: count,
         window: window,
     })
@@ -74,37 +69,27 @@ pub fn read_job(text: &[u8]) -> Reading
 
 // Runs the job of a text and prints the answer from the first place of the buffer on; the places after it are left as they were. Tells how
 // many bytes it printed. The buffer is as large as the longest answer, of 4,096 arguments.
-pub fn run_job(text: &[u8], out: &mut [u8; 69674]) -> usize
+pub fn run_job(text: &[u8], out: &mut [u8; LONGEST]) -> usize
     ensures { λ r. ⌜ r ≡ length (output-of (now (text .entry))) ⌝ }
-    ensures { λ r. ⌜ now (out .exit) ≡ in-front (output-of (now (text .entry))) (now (out .entry)) ⌝ }
+    ensures { λ r. ⌜ now (out .exit) ≡ overwrite-front (output-of (now (text .entry))) (now (out .entry)) ⌝ }
 {
     match read_job(text) {
-        Reading::Read(job) => print_answer(job, out),
-        Reading::Malformed => put_line(b"refused=", 8, out, 0),
+        Reading::Read(domain) => print_answer(domain, out),
+        Reading::Malformed => text::put_line(b"refused=", 8, out, 0),
     }
 }
 
 // Searches a job's domain and prints the answer.
-fn print_answer(job: Job, out: &mut [u8]) -> usize
-    requires { ⌜ 69674 ≤ length (now out) ⌝ }
-    ensures { λ r. ⌜ r ≡ length (output-with (Read job)) ⌝ }
-    ensures { λ r. ⌜ now (out .exit) ≡ in-front (output-with (Read job)) (now (out .entry)) ⌝ }
+fn print_answer(domain: Domain, out: &mut [u8]) -> usize
+    ensures { λ r. ⌜ r ≡ place-after 0 (printed domain) (now (out .entry)) ⌝ }
+    ensures { λ r. ⌜ now (out .exit) ≡ sets (now (out .entry)) 0 (printed domain) ⌝ }
 {
+    let mut marks = [0u8; 8];
     let mut list = [0u32; 4096];
-    let answer = domain::search_domain(
-        job.modulus,
-        job.value,
-        job.slope,
-        job.curve,
-        job.count,
-        job.window,
-        &mut list,
-    );
-    if answer.refusal != 0 {
-        return put_line(b"refused=", answer.refusal as u64, out, 0);
+    match domain::search_domain(domain, &mut marks, &mut list) {
+        domain::DomainAnswer::Refused(number) => text::put_line(b"refused=", number as u64, out, 0),
+        domain::DomainAnswer::Searched { first, listed } => {
+            put_report(first, &marks, &list[..listed as usize], out)
+        }
     }
-    let first = answer.first;
-    let marks = answer.marks;
-    let listed = answer.listed as usize;
-    put_told(first, &marks, &list[..listed], out)
 }

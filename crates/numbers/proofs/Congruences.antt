@@ -60,14 +60,3 @@ same {M} {a} {b} h l p = sym (mod-eq-of-lt h) ∙ same-remainder p ∙ mod-eq-of
 -- the remainder of a number is what is below the modulus and congruent to it
 pub is-remainder : {M r a : ℕ} → r < M → Congruent M r a → r ≡ a % M
 is-remainder h p = sym (mod-eq-of-lt h) ∙ same-remainder p
-
--- numbers that leave the same remainder are congruent
-pub by-remainders : {M a b : ℕ} → a % M ≡ b % M → Congruent M a b
-by-remainders {M} {a} {b} e = chain (flip (remainder a M)) (chain (equals e) (remainder b M))
-
--- doubled, and halved
-pub doubled : {M a b : ℕ} → Congruent M a b → Congruent (2 * M) (2 * a) (2 * b)
-doubled {M} {a} {b} p = record { over = p .over; under = p .under; equal = omega (arith, p .equal) }
-
-pub halved : {M a b : ℕ} → Congruent (2 * M) (2 * a) (2 * b) → Congruent M a b
-halved {M} {a} {b} p = record { over = p .over; under = p .under; equal = omega (arith, p .equal) }

@@ -44,8 +44,8 @@ euclid P base step a b = go a a b (omega arith)
         let r : b % suc a < suc a = mod-lt b (omega arith) in
         step (suc a) b (omega arith) (go n (b % suc a) (suc a) (omega arith))
 
-pub gcd-right : (a b : ℕ) → Greatest-common-divisor a b (gcd a b)
-gcd-right =
+pub gcd-correct : (a b : ℕ) → Greatest-common-divisor a b (gcd a b)
+gcd-correct =
     euclid (λ a b. Greatest-common-divisor a b (gcd a b))
     (λ b. rw gcd-zero (record { divides-first = dvd-zero b; divides-second = dvd-refl b; greatest = λ d i j. j }))
     (λ a b h g. rw (gcd-step a b h)
@@ -68,4 +68,4 @@ gcd-scaled a b (suc k) =
 
 -- what divides a product divides its product with the greatest common divisor
 pub divides-scaled : (m a y : ℕ) → m ∣ a * y → m ∣ gcd a m * y
-divides-scaled m a y d = subst (λ (g : ℕ). m ∣ g) (gcd-scaled a m y) (gcd-right (a * y) (m * y) .greatest m d (dvd-mul-right m y))
+divides-scaled m a y d = subst (λ (g : ℕ). m ∣ g) (gcd-scaled a m y) (gcd-correct (a * y) (m * y) .greatest m d (dvd-mul-right m y))

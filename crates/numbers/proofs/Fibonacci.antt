@@ -2,6 +2,7 @@
 use mathlib.Core.Path.{_≡_, refl, ap}
 use Prim.Native.Nat.{ℕ, zero, suc, _+_, _-_, _≤_}
 use native.Mathlib.Omega.{arith}
+use lib.Dec.{lit≤}
 
 -- 0, 1, 1, 2, 3, 5, 8, ..: each is the sum of the two before it
 unfoldable pub fib : ℕ → ℕ
@@ -37,3 +38,8 @@ fib-mono {n} {k} h =
     far (suc d) =
         let e : n + suc d ≡ suc (n + d) = omega arith in
         omega (arith, ap fib e, far d, fib-up (n + d))
+
+-- 29 rows are enough for the largest count: 1,048,576 is at most the sum of these two
+pub fib-31 : 1048576 ≤ fib 29 + fib 30
+unfolding fib
+fib-31 = lit≤ tt

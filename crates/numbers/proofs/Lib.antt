@@ -4,4 +4,10 @@ pub mod Fibonacci
 pub mod Lists
 pub mod Equivalences
 pub mod Congruences
+pub mod Integers
+pub mod Signed
 pub mod Selections
+pub mod Pieces
+pub mod Buffers
+pub mod Checklists
+pub mod Promises

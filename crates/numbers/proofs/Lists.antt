@@ -1,12 +1,12 @@
--- Lists that ascend strictly, number by number from a bound on; a list written from the first place on into zeros.
--- Assumes nothing.
-use mathlib.Core.Path.{_≡_, refl, _∙_, ap}
+-- Lists that ascend strictly, number by number from a bound on; lists without entries; an array that begins with a list and has zeros after
+-- it. Assumes nothing.
+use mathlib.Core.Path.{_≡_, refl, sym, _∙_, ap}
 use mathlib.Core.List.{List, [], _∷_, _++_}
 use Prim.Native.Nat.{ℕ, zero, suc, _+_, _-_, _≤_, _<_}
-use native.Mathlib.Nat.{suc-sub-suc, sub-zero, zero-sub, zero-add, not-suc-le-zero}
+use native.Mathlib.Nat.{suc-sub-suc, sub-zero, zero-sub, not-suc-le-zero}
 use native.Mathlib.Omega.{arith}
 use lib.ListN.{length, getD, drop, replicate, length-append, length-replicate, List·getD-append}
-use lib.Seq.{sets, sets-eq, getD-append-add}
+use lib.Seq.{getD-append-add, drop-drop, drop-at}
 use Rattle.numbers.specs.Lists.{Ascending, zero-padded}
 
 -- each number is at least the bound, and larger than the number before it
@@ -30,17 +30,10 @@ pub no-entries : (xs : List ℕ) → length xs ≤ 0 → xs ≡ []
 no-entries [] h = refl
 no-entries (x ∷ xs) h = absurd (not-suc-le-zero h)
 
-drop-replicate : (n k : ℕ) → drop {A = ℕ} k (replicate n 0) ≡ replicate {A = ℕ} (n - k) 0
+pub drop-replicate : (n k : ℕ) → drop {A = ℕ} k (replicate n 0) ≡ replicate {A = ℕ} (n - k) 0
 drop-replicate n zero = rw sub-zero
 drop-replicate zero (suc k) = rw zero-sub
 drop-replicate (suc n) (suc k) = rw suc-sub-suc (drop-replicate n k)
-
--- a list written from the first place on into an array of zeros
-pub written-into-zeros : (n : ℕ) (xs : List ℕ) → length xs ≤ n → sets (replicate n 0) 0 xs ≡ zero-padded n xs
-unfolding zero-padded
-written-into-zeros n xs h =
-    sets-eq xs (replicate n 0) 0 (omega (arith, length-replicate {A = ℕ} n 0))
-    ∙ ap (λ (l : List ℕ). xs ++ l) (rw zero-add (drop-replicate n (length xs)))
 
 -- what such an array holds, place by place
 pub padded-places : (n : ℕ) (xs : List ℕ) → length xs ≤ n → length (zero-padded n xs) ≡ n
@@ -62,3 +55,8 @@ unfolding zero-padded
 padded-after n xs i h =
     let e : i ≡ length xs + (i - length xs) = omega arith in
     rw e (getD-append-add xs (replicate (n - length xs) 0) (i - length xs) 0 ∙ zeros-at (n - length xs) (i - length xs))
+
+-- what follows a piece that stands at a place
+pub after-piece : (t : List ℕ) (at : ℕ) (piece rest : List ℕ) → drop at t ≡ piece ++ rest → drop (at + length piece) t ≡ rest
+after-piece t at piece rest e =
+    sym (drop-drop (length piece) at t) ∙ ap (drop (length piece)) e ∙ drop-at piece rest (length piece) refl

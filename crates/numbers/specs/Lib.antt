@@ -1,2 +1,6 @@
 pub mod Divisors
 pub mod Lists
+pub mod Integers
+pub mod Checklist
+pub mod Unit
+pub mod Promise

@@ -1,7 +1,10 @@
--- Lists of numbers: strictly ascending, all that have a property, and as the front of an array. Assumes nothing: these are definitions.
+-- Lists of numbers: strictly ascending, all that have a property, the values of a function, one after another, and as the front of an array.
+-- Assumes nothing: these are definitions.
+use mathlib.Core.Path.{_≡_}
 use mathlib.Core.Bool.{Bool, cond}
-use mathlib.Core.List.{List, [], _∷_, _++_}
-use Prim.Native.Nat.{ℕ, zero, suc, _+_, _-_, _<_}
+use mathlib.Core.List.{List, [], _∷_, _++_, List·Memᴰ}
+use mathlib.Core.Logic.{_↔_}
+use Prim.Native.Nat.{ℕ, zero, suc, _+_, _-_, _^_, _≤_, _<_, min, max}
 use lib.ListN.{length, getD, drop, replicate}
 
 -- strictly ascending: of two places the later one holds the larger number
@@ -12,26 +15,44 @@ Ascending xs = (i j : ℕ) → i < j → j < length xs → getD xs i 0 < getD xs
 unfoldable pub zero-padded : (n : ℕ) → List ℕ → List ℕ
 zero-padded n xs = xs ++ replicate (n - length xs) 0
 
--- of as many numbers from x on as are left, those that have a property
-unfoldable pub having : (property : ℕ → Bool) → (left x : ℕ) → List ℕ
-having p zero x = []
-having p (suc n) x = cond (p x) (x ∷ having p n (suc x)) (having p n (suc x))
+-- of the numbers from x on, as many as are left, those that have a property
+unfoldable pub filter-range : (property : ℕ → Bool) → (left x : ℕ) → List ℕ
+filter-range p zero x = []
+filter-range p (suc n) x = cond (p x) (x ∷ filter-range p n (suc x)) (filter-range p n (suc x))
 
 -- how many of them have it
-unfoldable pub how-many : (property : ℕ → Bool) → (left x : ℕ) → ℕ
-how-many p zero x = 0
-how-many p (suc n) x = cond (p x) 1 0 + how-many p n (suc x)
+unfoldable pub count-if : (property : ℕ → Bool) → (left x : ℕ) → ℕ
+count-if p zero x = 0
+count-if p (suc n) x = cond (p x) 1 0 + count-if p n (suc x)
+
+-- a list has exactly the numbers of which something holds, each once and ascending; they fit 32 bits, and there are so many
+pub record Enumerates (holds : (x : ℕ) → Type 0) (number : ℕ) (xs : List ℕ) : Type 0 where
+  pub exactly : (x : ℕ) → List·Memᴰ x xs ↔ holds x
+  pub ascending : Ascending xs
+  pub fits : (x : ℕ) → List·Memᴰ x xs → x < 2 ^ 32
+  pub counted : length xs ≡ number
 
 -- f(i), f(i + 1) and so on, as many as are left
-unfoldable pub enumerated : (f : ℕ → ℕ) → (left i : ℕ) → List ℕ
-enumerated f zero i = []
-enumerated f (suc n) i = f i ∷ enumerated f n (suc i)
+unfoldable pub tabulate : (f : ℕ → ℕ) → (left i : ℕ) → List ℕ
+tabulate f zero i = []
+tabulate f (suc n) i = f i ∷ tabulate f n (suc i)
 
--- each number of a list, so much larger
-unfoldable pub raised : (by : ℕ) → List ℕ → List ℕ
-raised h [] = []
-raised h (x ∷ xs) = (h + x) ∷ raised h xs
+-- the same of lists, one after another
+unfoldable pub joined : (f : ℕ → List ℕ) → (left i : ℕ) → List ℕ
+joined f zero i = []
+joined f (suc n) i = f i ++ joined f n (suc i)
 
 -- a list written over the front of another
-unfoldable pub in-front : (xs old : List ℕ) → List ℕ
-in-front xs old = xs ++ drop (length xs) old
+unfoldable pub overwrite-front : (xs old : List ℕ) → List ℕ
+overwrite-front xs old = xs ++ drop (length xs) old
+
+-- the place after a list that is written into a buffer from a place on, as far as there are places
+abbrev pub place-after : (at : ℕ) → (xs old : List ℕ) → ℕ
+place-after at xs old = min (at + length xs) (max at (length old))
+
+-- a list stands in a buffer: from the first place on, and every place after it is as it was
+pub record Buffer-correct (xs old new : List ℕ) : Type 0 where
+  pub places : length new ≡ length old
+  pub room : length xs ≤ length old
+  pub front : (i : ℕ) → i < length xs → getD new i 0 ≡ getD xs i 0
+  pub after : (i : ℕ) → length xs ≤ i → getD new i 0 ≡ getD old i 0

@@ -1,7 +1,7 @@
 -- The test of each entry against the next one: it holds exactly of the lists that ascend strictly; and it goes pair by pair.
 -- Assumes nothing.
-use mathlib.Core.Path.{_≡_, refl, sym, _∙_, ap}
-use mathlib.Core.Bool.{Bool, true, false, _&&_, and-true, and-false}
+use mathlib.Core.Path.{_≡_, refl, sym, _∙_}
+use mathlib.Core.Bool.{Bool, true, false, _&&_, and-true, and-false, false≢true}
 use mathlib.Core.List.{List, [], _∷_}
 use mathlib.Core.Logic.{_↔_, by-cases}
 use Prim.Native.Nat.{ℕ, suc, _+_, _-_, _≤_, _<_}
@@ -12,8 +12,7 @@ use lib.ListN.{length, getD, drop, length-drop}
 use lib.Seq.{drop-cons}
 use borrow.Author.Tests.{lt-ltb, le-ltb}
 use Rattle.numbers.specs.Lists.{Ascending}
-use Rattle.numbers.proofs.Lists as lists
-use Rattle.numbers.proofs.Lists.{Ascending-from}
+use Rattle.numbers.proofs.Lists.{Ascending-from, ascending as ascends}
 use Rattle.numbers.proofs.Lists.Ascending-from.{ascending-nil, ascending-cons}
 use Rattle.range.specs.Range.{ascending}
 
@@ -34,14 +33,11 @@ single (x ∷ y ∷ xs) l = absurd (omega (arith, l))
 
 -- ---- it holds exactly of the lists that ascend strictly
 
-differ : false ≡ true → ⊥
-differ e = let z : _≡_ {A = ℕ} 0 1 = cc in omega arith
-
 climbs : (n x : ℕ) (xs : List ℕ) → n ≤ x → ascending (x ∷ xs) ≡ true → Ascending-from n (x ∷ xs)
 climbs n x [] l e = ascending-cons l ascending-nil
 climbs n x (y ∷ xs) l e =
     by-cases (decLt x y) (λ h. ascending-cons l (climbs (suc x) y xs h (sym (up x y xs h) ∙ e)))
-    (λ h. absurd (differ (sym (not-up x y xs (omega arith)) ∙ e)))
+    (λ h. absurd (false≢true (sym (not-up x y xs (omega arith)) ∙ e)))
 
 passes : (xs : List ℕ) → Ascending xs → ascending xs ≡ true
 passes [] a = single [] (omega arith)
@@ -49,9 +45,9 @@ passes (x ∷ []) a = single (x ∷ []) (omega arith)
 passes (x ∷ y ∷ xs) a =
     up x y xs (a 0 1 (omega arith) (omega arith)) ∙ passes (y ∷ xs) (λ i j h l. a (suc i) (suc j) (omega arith) (omega arith))
 
-pub ascending-right : (xs : List ℕ) → (ascending xs ≡ true) ↔ Ascending xs
-ascending-right [] = (λ e. lists.ascending {n = 0} ascending-nil, passes [])
-ascending-right (x ∷ xs) = (λ e. lists.ascending (climbs x x xs (le-refl x) e), passes (x ∷ xs))
+pub ascending-correct : (xs : List ℕ) → (ascending xs ≡ true) ↔ Ascending xs
+ascending-correct [] = (λ e. ascends {n = 0} ascending-nil, passes [])
+ascending-correct (x ∷ xs) = (λ e. ascends (climbs x x xs (le-refl x) e), passes (x ∷ xs))
 
 -- ---- pair by pair
 
@@ -64,23 +60,19 @@ pub start : (xs : List ℕ) → Compared xs true 1
 start xs = record { some = omega arith; rest = refl }
 
 module _ {xs : List ℕ} {so-far : Bool} {i : ℕ} (c : Compared xs so-far i) where
-  next-pair : i < length xs → drop (i - 1) xs ≡ getD xs (i - 1) 0 ∷ getD xs i 0 ∷ drop (suc i) xs
-  next-pair l =
-      let e : suc (i - 1) ≡ i = omega (arith, c .some) in
-      drop-cons xs (i - 1) 0 (omega arith) ∙ rw (e, drop-cons xs i 0)
+  module _ (more : i < length xs) where
+    next-pair : drop (i - 1) xs ≡ getD xs (i - 1) 0 ∷ getD xs i 0 ∷ drop (suc i) xs
+    next-pair =
+        let e : suc (i - 1) ≡ i = omega (arith, c .some) in
+        drop-cons xs (i - 1) 0 (omega arith) ∙ rw (e, drop-cons xs i 0)
 
-  pub next-up : i < length xs → getD xs (i - 1) 0 < getD xs i 0 → Compared xs so-far (i + 1)
-  next-up l h =
-      let e : i + 1 - 1 ≡ i = omega arith in
-      let f = ap ascending (next-pair l) ∙ up (getD xs (i - 1) 0) (getD xs i 0) (drop (suc i) xs) h in
-      record { some = omega arith; rest = rw (e, drop-cons xs i 0) (rw f at (c .rest)) }
+    pub next-up : getD xs (i - 1) 0 < getD xs i 0 → Compared xs so-far (i + 1)
+    next-up h =
+        let e : i + 1 - 1 ≡ i = omega arith in
+        record { some = omega arith; rest = rw (e, drop-cons xs i 0) (rw (next-pair, up) at (c .rest)) }
 
-  pub next-not-up : i < length xs → getD xs i 0 ≤ getD xs (i - 1) 0 → Compared xs false (i + 1)
-  next-not-up l h =
-      let f = ap ascending (next-pair l) ∙ not-up (getD xs (i - 1) 0) (getD xs i 0) (drop (suc i) xs) h in
-      record { some = omega arith; rest = sym (and-false so-far) ∙ (rw f at (c .rest)) }
+    pub next-not-up : getD xs i 0 ≤ getD xs (i - 1) 0 → Compared xs false (i + 1)
+    next-not-up h = record { some = omega arith; rest = sym (and-false so-far) ∙ (rw (next-pair, not-up) at (c .rest)) }
 
   pub done : length xs ≤ i → so-far ≡ ascending xs
-  done l =
-      let f = single (drop (i - 1) xs) (omega (arith, length-drop (i - 1) xs)) in
-      sym (and-true so-far) ∙ (rw f at (c .rest))
+  done l = sym (and-true so-far) ∙ (rw (single (drop (i - 1) xs) (omega (arith, length-drop (i - 1) xs))) at (c .rest))

@@ -2,5 +2,4 @@ pub mod Counting
 pub mod Comparing
 pub mod Cases
 pub mod Places
-pub mod Members
 pub mod Promises

@@ -1,55 +1,107 @@
--- In a list that ascends strictly the entries below a bound stand before the others: so the range has the entries between its bounds.
+-- In a list that ascends strictly the entries below a bound stand before the others: so the range has the entries between its bounds, and no other.
 -- Assumes nothing.
-use mathlib.Core.Path.{_≡_, _∙_}
-use mathlib.Core.List.{List, [], _∷_}
-use mathlib.Core.Logic.{by-cases}
-use Prim.Native.Nat.{ℕ, zero, suc, _+_, _≤_, _<_}
-use native.Mathlib.Decide.{decLt}
-use native.Mathlib.Nat.{not-suc-le-zero}
+use mathlib.Core.Path.{_≡_, refl, sym, _∙_, ap}
+use mathlib.Core.List.{List, [], _∷_, List·Memᴰ, List·Memᴰ·not-nil, List·Memᴰ·cases-cons, Memᴰ·cast}
+use mathlib.Core.List.List·Memᴰ.{List·Memᴰ·head, List·Memᴰ·tail}
+use mathlib.Core.Logic.{_↔_, ⊎-elim}
+use Prim.Native.Nat.{ℕ, zero, suc, _+_, _-_, _≤_, _<_}
+use native.Mathlib.Nat.{not-suc-le-zero, lt-of-not-le, le-of-suc-le-suc}
 use native.Mathlib.Omega.{arith}
-use lib.ListN.{length, getD}
+use lib.ListN.{length, getD, drop, length-drop}
+use lib.Seq.{getD-take, getD-drop, length-take-le}
 use Rattle.numbers.specs.Lists.{Ascending}
-use Rattle.range.specs.Range.{below, start-of, count-of}
-use Rattle.range.proofs.Counting.{below-none, below-counted, below-passed}
-use Rattle.range.proofs.Cases.{Between}
+use Rattle.range.specs.Range.{below, start-of, count-of, range-of}
+use Rattle.range.specs.Promise.{Handed-back, Range-correct}
+use Rattle.range.proofs.Counting.{below-counted, below-passed, below-next}
+use Rattle.range.proofs.Cases.{Between, within}
+
+-- ---- the entries below a bound come first
 
 rest-ascends : (x : ℕ) (xs : List ℕ) → Ascending (x ∷ xs) → Ascending xs
 rest-ascends x xs a i j h l = a (suc i) (suc j) (omega arith) (omega arith)
 
 module _ (b : ℕ) where
-  none-below : (xs : List ℕ) → ((i : ℕ) → i < length xs → b ≤ getD xs i 0) → below b xs ≡ 0
-  none-below [] h = below-none b
-  none-below (x ∷ xs) h =
-      let e = none-below xs (λ i l. h (suc i) (omega arith)) in
-      omega (arith, below-passed b x xs (h 0 (omega arith)))
+  -- there are no more of them than stand before an entry that is not below the bound
+  few-below : (xs : List ℕ) → Ascending xs → (i : ℕ) → (i < length xs → b ≤ getD xs i 0) → below b xs ≤ i
+  few-below [] a i h = unfold below in omega arith
+  few-below (x ∷ xs) a zero h =
+      let first : b ≤ x = h (omega arith) in
+      omega (arith, below-passed b x xs first, few-below xs (rest-ascends x xs a) 0 (λ l. omega (arith, a 0 1 (omega arith) (omega arith))))
+  few-below (x ∷ xs) a (suc i) h = omega (arith, below-next b x xs, few-below xs (rest-ascends x xs a) i (λ l. h (omega arith)))
 
-  -- where the first entry is not below the bound, none is
-  none-after : (x : ℕ) (xs : List ℕ) → Ascending (x ∷ xs) → b ≤ x → (i : ℕ) → i < length xs → b ≤ getD xs i 0
-  none-after x xs a h i l = omega (arith, a 0 (suc i) (omega arith) (omega arith))
+  -- and more than stand before one that is
+  many-below : (xs : List ℕ) → Ascending xs → (i : ℕ) → i < length xs → getD xs i 0 < b → i < below b xs
+  many-below [] a i l h = absurd (not-suc-le-zero l)
+  many-below (x ∷ xs) a zero l h = omega (arith, below-counted b x xs h)
+  many-below (x ∷ xs) a (suc i) l h =
+      omega (arith, below-counted b x xs (omega (arith, h, a 0 (suc i) (omega arith) l)), many-below xs (rest-ascends x xs a) i (omega arith) h)
 
-  none-counted : (x : ℕ) (xs : List ℕ) → Ascending (x ∷ xs) → b ≤ x → below b (x ∷ xs) ≡ 0
-  none-counted x xs a h = below-passed b x xs h ∙ none-below xs (none-after x xs a h)
+  module _ (xs : List ℕ) (a : Ascending xs) (i : ℕ) where
+    before-count : i < below b xs → getD xs i 0 < b
+    before-count l = lt-of-not-le (λ h. omega (arith, few-below xs a i (λ k. h)))
 
-  pub before-count : (xs : List ℕ) → Ascending xs → (i : ℕ) → i < below b xs → getD xs i 0 < b
-  before-count [] a i l = absurd (omega (arith, below-none b))
-  before-count (x ∷ xs) a zero l = by-cases (decLt x b) (λ h. h) (λ h. absurd (omega (arith, none-counted x xs a (omega arith))))
-  before-count (x ∷ xs) a (suc i) l =
-      by-cases (decLt x b) (λ h. before-count xs (rest-ascends x xs a) i (omega (arith, below-counted b x xs h)))
-      (λ h. absurd (omega (arith, none-counted x xs a (omega arith))))
+    from-count : below b xs ≤ i → i < length xs → b ≤ getD xs i 0
+    from-count h l = le-of-suc-le-suc (lt-of-not-le (λ k. omega (arith, many-below xs a i l k)))
 
-  pub from-count : (xs : List ℕ) → Ascending xs → (i : ℕ) → below b xs ≤ i → i < length xs → b ≤ getD xs i 0
-  from-count [] a i h l = absurd (not-suc-le-zero l)
-  from-count (x ∷ xs) a zero h l = by-cases (decLt x b) (λ k. absurd (omega (arith, below-counted b x xs k))) (λ k. omega arith)
-  from-count (x ∷ xs) a (suc i) h l =
-      by-cases (decLt x b) (λ k. from-count xs (rest-ascends x xs a) i (omega (arith, below-counted b x xs k)) (omega arith))
-      (λ k. none-after x xs a (omega arith) i (omega arith))
+-- ---- what is handed back, place by place
+
+pub handed-back : (lo hi : ℕ) (xs : List ℕ) → Handed-back lo hi xs
+handed-back lo hi xs =
+    let rest = drop (start-of lo hi xs) xs in
+    record {
+      placed = (refl, refl);
+      many = length-take-le (count-of lo hi xs) rest (omega (arith, within lo hi xs, length-drop (start-of lo hi xs) xs));
+      in-order = λ i h. getD-take (count-of lo hi xs) rest i 0 h ∙ getD-drop (start-of lo hi xs) xs i 0;
+    }
+
+-- ---- members stand at places
+
+member-at : (xs : List ℕ) (i : ℕ) → i < length xs → List·Memᴰ (getD xs i 0) xs
+member-at [] i l = absurd (not-suc-le-zero l)
+member-at (x ∷ xs) zero l = List·Memᴰ·head refl
+member-at (x ∷ xs) (suc i) l = List·Memᴰ·tail (member-at xs i (omega arith))
+
+place-of : (x : ℕ) (xs : List ℕ) → List·Memᴰ x xs → (i : ℕ) × (i < length xs) × (getD xs i 0 ≡ x)
+place-of x [] m = absurd (List·Memᴰ·not-nil m)
+place-of x (y ∷ xs) m =
+    ⊎-elim (λ e. (0, omega arith, sym e)) (λ t. let p = place-of x xs t in (suc (p .0), omega (arith, p .1), p .2)) (List·Memᴰ·cases-cons m)
+
+-- ---- the range of a list that ascends strictly
 
 module _ {lo hi : ℕ} {xs : List ℕ} (r : Between lo hi xs) (a : Ascending xs) where
-  pub before : (i : ℕ) → i < start-of lo hi xs → getD xs i 0 < lo
-  before i h = before-count lo xs a i (omega arith)
-
-  pub inside : (i : ℕ) → start-of lo hi xs ≤ i → i < start-of lo hi xs + count-of lo hi xs → (lo ≤ getD xs i 0) × (getD xs i 0 < hi)
+  inside : (i : ℕ) → start-of lo hi xs ≤ i → i < start-of lo hi xs + count-of lo hi xs → (lo ≤ getD xs i 0) × (getD xs i 0 < hi)
   inside i h k = (from-count lo xs a i (omega arith) (omega arith), before-count hi xs a i (omega arith))
 
-  pub after : (i : ℕ) → start-of lo hi xs + count-of lo hi xs ≤ i → i < length xs → hi ≤ getD xs i 0
-  after i h l = from-count hi xs a i (omega arith) l
+  exactly : (x : ℕ) → List·Memᴰ x (range-of lo hi xs) ↔ (List·Memᴰ x xs × (lo ≤ x) × (x < hi))
+  exactly x = (of-range, in-range)
+    where
+      back : Handed-back lo hi xs
+      back = handed-back lo hi xs
+
+      of-range : List·Memᴰ x (range-of lo hi xs) → List·Memᴰ x xs × (lo ≤ x) × (x < hi)
+      of-range m =
+          let p = place-of x (range-of lo hi xs) m in
+          let l : p .0 < count-of lo hi xs = omega (arith, p .1, back .many) in
+          let e = sym (back .in-order (p .0) l) ∙ p .2 in
+          let b = inside (start-of lo hi xs + p .0) (omega arith) (omega arith) in
+          (Memᴰ·cast (sym e) (member-at xs (start-of lo hi xs + p .0) (omega (arith, r))), omega arith, omega arith)
+
+      in-range : List·Memᴰ x xs × (lo ≤ x) × (x < hi) → List·Memᴰ x (range-of lo hi xs)
+      in-range m =
+          let p = place-of x xs (m .0) in
+          let late = few-below lo xs a (p .0) (λ l. omega (arith, m .1, p .2)) in
+          let early = many-below hi xs a (p .0) (p .1) (omega (arith, m .2, p .2)) in
+          let i = p .0 - start-of lo hi xs in
+          let l : i < count-of lo hi xs = omega (arith, r) in
+          let e : start-of lo hi xs + i ≡ p .0 = omega (arith, r) in
+          Memᴰ·cast (sym (back .in-order i l ∙ ap (λ (j : ℕ). getD xs j 0) e ∙ p .2)) (member-at (range-of lo hi xs) i (omega (arith, back .many)))
+
+  pub range-correct : Range-correct lo hi xs
+  range-correct =
+      record {
+        starts = r .start;
+        before = λ i h. before-count lo xs a i (omega arith);
+        inside = inside;
+        after = λ i h l. from-count hi xs a i (omega arith) l;
+        exactly = exactly;
+      }

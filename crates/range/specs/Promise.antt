@@ -10,7 +10,7 @@ use Rattle.numbers.specs.Lists.{Ascending}
 use Rattle.range.specs.Range.{ascending, below, start-of, count-of, place-of, range-of, Stretch}
 
 -- of a strictly ascending list and lo ≤ hi: before the range the entries are below lo, in it from lo on and below hi, after it from hi on
-pub record Range-right (lo hi : ℕ) (xs : List ℕ) : Type 0 where
+pub record Range-correct (lo hi : ℕ) (xs : List ℕ) : Type 0 where
   -- empty or not, it starts just after the entries below lo
   pub starts : start-of lo hi xs ≡ below lo xs
   pub before : (i : ℕ) → i < start-of lo hi xs → getD xs i 0 < lo
@@ -38,10 +38,10 @@ pub record Empty-at-start (lo hi : ℕ) (xs : List ℕ) : Type 0 where
 
 pub record Promised : Type 0 where
   -- the test of each entry against the next one tells whether the list ascends strictly
-  pub ascending-right : (xs : List ℕ) → (ascending xs ≡ true) ↔ Ascending xs
+  pub ascending-correct : (xs : List ℕ) → (ascending xs ≡ true) ↔ Ascending xs
   pub within : (lo hi : ℕ) (xs : List ℕ) → start-of lo hi xs + count-of lo hi xs ≤ length xs
   pub handed-back : (lo hi : ℕ) (xs : List ℕ) → Handed-back lo hi xs
   pub stretches : Stretches
-  pub range : (lo hi : ℕ) (xs : List ℕ) → Ascending xs → lo ≤ hi → Range-right lo hi xs
+  pub range : (lo hi : ℕ) (xs : List ℕ) → Ascending xs → lo ≤ hi → Range-correct lo hi xs
   pub unordered : (lo hi : ℕ) (xs : List ℕ) → (Ascending xs → ⊥) → Empty-at-start lo hi xs
   pub crossed : (lo hi : ℕ) (xs : List ℕ) → hi < lo → Empty-at-start lo hi xs

@@ -1,50 +1,81 @@
 -- What either search answers: a refusal, or what its state shows at the end. Assumes nothing.
 use mathlib.Core.Path.{_≡_, refl, sym, _∙_, ap}
+use mathlib.Core.Logic.{_↔_}
 use Prim.Native.Nat.{ℕ, zero, suc}
-use Rattle.segment.specs.Segment.{Segment, Accepted, residue, refusal}
-use Rattle.segment.specs.Search.{Search, argument, distance}
-use Rattle.segment.specs.Search.Search.{regular, fine}
-use Rattle.segment.specs.State.{points, regular-shown-at, fine-shown-at}
-use Rattle.segment.specs.Answer.{regular-shown, fine-shown, regular-answer-with, fine-answer-with}
+use native.Mathlib.Omega.{arith}
+use Rattle.numbers.proofs.Checklists.{accepts, refuses}
+use Rattle.expansion.specs.Reached.{Search}
+use Rattle.expansion.specs.Reached.Search.{regular, fine}
+use Rattle.geometry.specs.Segment.{Segment, segment, residue}
+use Rattle.segment.specs.Accepted.{asked, checks, refusal, Accepted}
+use Rattle.segment.specs.Search.{argument, distance, verdict-at}
+use Rattle.segment.specs.Answer.{regular-shown, fine-shown, regular-answer-with, fine-answer-with, regular-answer, fine-answer}
+use Rattle.segment.specs.State.{points, Ended}
+use Rattle.segment.specs.Promise.{Refused-for}
 use Rattle.segment.specs.declared.state.State.{State}
 use Rattle.segment.specs.declared.RegularAnswer.the-variants as regular-variants
 use Rattle.segment.specs.declared.FineAnswer.the-variants as fine-variants
-use Rattle.segment.proofs.Refusals.{unrefused}
 use Rattle.segment.proofs.Minimum.{least-is}
-use Rattle.segment.proofs.Walk.{At-end}
 
-module _ {k : Search} {s : Segment} {t : State} (e : At-end k s t) where
+-- ---- refusals
+
+-- a segment is accepted exactly where no number refuses it
+pub accepted : (s : Segment) → (refusal s ≡ 0) ↔ Accepted s
+unfolding refusal
+accepted s = let r = accepts (checks s) (omega arith) in (λ e. let h = r .0 e in omega arith, λ a. r .1 (omega arith))
+
+pub refused-for : (s : Segment) (n : ℕ) → (refusal s ≡ suc n) ↔ Refused-for s (suc n)
+unfolding refusal
+refused-for s = refuses (checks s)
+
+-- a number that is not 0 refuses
+module _ (M a b N w : ℕ) where
+  pub regular-refused : (n : ℕ) → n ≡ refusal (asked M a b N w) → (n ≡ 0 → ⊥) → regular-variants.Refused n ≡ regular-answer M a b N w
+  unfolding regular-answer regular-answer-with
+  regular-refused zero e h = absurd (h refl)
+  regular-refused (suc n) e h = rw (← e)
+
+  pub fine-refused : (n : ℕ) → n ≡ refusal (asked M a b N w) → (n ≡ 0 → ⊥) → fine-variants.Refused n ≡ fine-answer M a b N w
+  unfolding fine-answer fine-answer-with
+  fine-refused zero e h = absurd (h refl)
+  fine-refused (suc n) e h = rw (← e)
+
+-- ---- the end of a search
+
+-- the window plays no part in it
+pub any-window : {k : Search} (M a b N w : ℕ) {t : State} → Ended k (segment M a b N 0) t → Ended k (segment M a b N w) t
+unfolding residue
+any-window M a b N w e = search
+
+module _ {k : Search} {s : Segment} {t : State} (e : Ended k s t) where
   argument-is : argument k s ≡ t .argument
   unfolding argument
-  argument-is = rw (e .label) (least-is s (points t) (e .best))
+  argument-is = rw (e .label) (least-is s (points t) (e .least))
 
   distance-is : distance k s ≡ t .distance
   unfolding distance
   distance-is = ap (residue s) argument-is ∙ sym (e .shows)
 
--- a number that is not 0 refuses
-regular-number : (n : ℕ) (s : Segment) → (n ≡ 0 → ⊥) → regular-answer-with n s ≡ regular-variants.Refused n
-unfolding regular-answer-with
-regular-number zero s h = absurd (h refl)
-regular-number (suc n) s h = refl
+module _ (M a b N w : ℕ) {t : State} (c : Accepted (asked M a b N w)) where
+  pub regular-answered : Ended regular (asked M a b N w) t
+      → regular-variants.Shown (record {
+        count = points t;
+        quotients = t .index;
+        distance = t .distance;
+        argument = t .argument;
+        verdict = verdict-at (t .distance) w;
+      }) ≡ regular-answer M a b N w
+  unfolding regular-answer regular-answer-with regular-shown
+  regular-answered e = rw (accepted (asked M a b N w) .1 c, e .label, argument-is e, distance-is e)
 
-fine-number : (n : ℕ) (s : Segment) → (n ≡ 0 → ⊥) → fine-answer-with n s ≡ fine-variants.Refused n
-unfolding fine-answer-with
-fine-number zero s h = absurd (h refl)
-fine-number (suc n) s h = refl
-
-module _ (n : ℕ) (s : Segment) (h : n ≡ 0 → ⊥) (e : n ≡ refusal s) where
-  pub regular-refused : regular-variants.Refused n ≡ regular-answer-with (refusal s) s
-  regular-refused = rw (sym e) (sym (regular-number n s h))
-
-  pub fine-refused : fine-variants.Refused n ≡ fine-answer-with (refusal s) s
-  fine-refused = rw (sym e) (sym (fine-number n s h))
-
-module _ {s : Segment} {t : State} (a : Accepted s) where
-  pub regular-answered : At-end regular s t → regular-variants.Shown (regular-shown-at t (s .window)) ≡ regular-answer-with (refusal s) s
-  unfolding regular-answer-with regular-shown regular-shown-at
-  regular-answered e = rw (unrefused a, e .label, argument-is e, distance-is e)
-
-  pub fine-answered : At-end fine s t → fine-variants.Shown (fine-shown-at t (s .window)) ≡ fine-answer-with (refusal s) s
-  unfolding fine-answer-with fine-shown fine-shown-at
-  fine-answered e = rw (unrefused a, e .label, argument-is e, distance-is e)
+  pub fine-answered : Ended fine (asked M a b N w) t
+      → fine-variants.Shown (record {
+        count = points t;
+        index = t .index;
+        part = t .part;
+        distance = t .distance;
+        argument = t .argument;
+        verdict = verdict-at (t .distance) w;
+      }) ≡ fine-answer M a b N w
+  unfolding fine-answer fine-answer-with fine-shown
+  fine-answered e = rw (accepted (asked M a b N w) .1 c, e .label, argument-is e, distance-is e)

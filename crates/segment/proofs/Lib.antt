@@ -1,18 +1,8 @@
-pub mod Quotients
-pub mod Refusals
-pub mod Residues
-pub mod TwoLength
-pub mod Least
-pub mod Standing
-pub mod Minimum
-pub mod Reaching
-pub mod Carrying
-pub mod Rows
-pub mod Stood
-pub mod Walk
-pub mod Steps
-pub mod Answers
-pub mod Reached
-pub mod Periods
-pub mod Showing
+mod Minimum
+mod Advancing
+mod Rows
+mod Invariant
+mod Steps
+mod Answers
+mod Showing
 pub mod Promises

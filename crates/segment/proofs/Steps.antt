@@ -4,225 +4,192 @@ use mathlib.Core.Path.{_≡_, refl, sym, _∙_, ap}
 use mathlib.Core.Bool.{Bool, true, false, not, cond, false≢true}
 use mathlib.Core.Logic.{_⊎_, inl, inr, ⊎-elim, by-cases}
 use Prim.Native.Nat.{ℕ, suc, _+_, _-_, _*_, _/_, _%_, _≤_, _<_}
-use native.Mathlib.Nat.{eq-zero-or-pos, mul-le-mul-right, div-mul-le-self, lt-div-mul-add, mod-lt, min-le-right, le-of-lt}
-use native.Mathlib.Decide.{decLe}
+use native.Mathlib.Nat.{eq-zero-or-pos, mul-le-mul-right, div-mul-le-self, lt-div-mul-add, mod-lt, min-le-left, min-le-right, le-of-lt}
+use native.Mathlib.Decide.{decLt, ℕ-discrete}
 use native.Mathlib.Omega.{arith}
-use borrow.Author.Tests.{le-leb, lt-leb}
+use borrow.Author.Tests.{leb-true, leb-false, eq-eqb, ne-eqb}
 use Rattle.numbers.proofs.Remainders.{quotient-positive}
-use Rattle.numbers.proofs.Fibonacci.{fib-one, fib-next, fib-mono}
-use Rattle.expansion.proofs.Regular.{relabelled}
-use Rattle.segment.specs.Segment.{Segment, Accepted}
-use Rattle.segment.specs.Search.{Search, reached}
-use Rattle.segment.specs.Search.Search.{regular, fine}
-use Rattle.segment.specs.State.{points, all-cuts, cuts-to, last-cuts, cut-state, ends, is-passed, Steppable, Unreached, regular-next, fine-next}
+use Rattle.numbers.proofs.Fibonacci.{fib-next}
+use Rattle.expansion.specs.Configurations.{Configuration, configuration}
+use Rattle.expansion.specs.Reached.{Search, reached-from}
+use Rattle.expansion.specs.Reached.Search.{regular, fine}
+use Rattle.expansion.proofs.Laws.{relabelled, row-reached, regular-on, regular-period, fine-part, fine-on}
+use Rattle.geometry.specs.Segment.{Segment}
+use Rattle.geometry.proofs.Laws.{short-positive, longs-positive, turned, distance-below, least}
+use Rattle.segment.specs.Search.{reached-in}
+use Rattle.segment.specs.State.{points, quotient, all-cuts, cuts-to, last-cuts, cut-state, finished, ends, Steppable, Unreached, regular-next, fine-next, Ended}
 use Rattle.segment.specs.declared.state.State.{State}
-use Rattle.segment.proofs.Quotients.{cuts-exact, cuts-inexact, rest-inexact}
-use Rattle.segment.proofs.Rows.{ends-exact, ends-inexact, Stays, Passes, passes-or-stays, is-passed-true, is-passed-false, before-below, fewer-or-last, in-row}
-use Rattle.segment.proofs.Standing.{whole, short-some, distance-below, below}
-use Rattle.segment.proofs.Stood.{Stood, cut-stood, turned-stood, points-fit, stood-best}
-use Rattle.segment.proofs.Reaching.{regular-on, regular-period, fine-part, fine-on}
-use Rattle.segment.proofs.Walk.{from, At-row, At-end, Walk, row-few, row-reached}
-use Rattle.segment.proofs.Walk.Walk.{at-row, at-end}
+use Rattle.segment.proofs.Rows.{cuts-exact, cuts-inexact, rest-inexact, ends-inexact, leaves-some}
+use Rattle.segment.proofs.Invariant.{State-holds, points-fit, cut-holds, ended-at, Running, Search-invariant, ends-here, runs, row-few}
 
-module _ {k : Search} {s : Segment} {odd : Bool} {t : State} (r : At-row k s odd t) where
-  short-pos : 0 < t .short
-  short-pos = short-some (r .stood .stands)
+-- what is still to be reached from the row after t's
+abbrev after-row : Search → Segment → State → Configuration
+after-row k s t = reached-from k (s .count) (suc (t .index)) (t .short) (t .long % t .short) (t .longs) (t .shorts + t .long / t .short * t .longs)
 
-  longs-pos : 0 < t .longs
-  longs-pos = omega (arith, r .grown, fib-one, fib-mono {n = 1} {k = suc (t .index)} (omega arith))
+module _ {k : Search} {s : Segment} {odd : Bool} {t : State} (r : Running k s odd t) where
+  positive : 0 < t .short
+  positive = short-positive (r .holds .lengths)
+
+  falls : t .short ≤ t .long
+  falls = le-of-lt (r .falls)
 
   -- all cuts leave something
   all-left : all-cuts t * t .short < t .long
-  all-left = omega (arith, div-mul-le-self (t .long - 1) (t .short), r .falls)
+  all-left = omega (arith, div-mul-le-self (t .long - 1) (t .short))
 
-  all-stood : Stood s odd (cut-state odd (all-cuts t) t)
-  all-stood = cut-stood (r .stood) (all-cuts t) all-left
-
-  quotient-some : 1 ≤ t .long / t .short
-  quotient-some = quotient-positive (t .long) (t .short) short-pos (le-of-lt (r .falls))
-
-  exact : t .long % t .short ≡ 0 → suc (all-cuts t) ≡ t .long / t .short
-  exact e = cuts-exact (t .long) (t .short) short-pos (le-of-lt (r .falls)) e
-
-  inexact : 0 < t .long % t .short → all-cuts t ≡ t .long / t .short
-  inexact h = cuts-inexact (t .long) (t .short) short-pos h
-
-  -- the quotient is at most one more than all cuts
-  quotient-few : t .long / t .short ≤ suc (all-cuts t)
-  quotient-few = ⊎-elim (λ e. omega (arith, exact e)) (λ h. omega (arith, inexact h)) (eq-zero-or-pos (t .long % t .short))
-
-  -- all cuts of a row that is not the last leave the remainder
-  inexact-rest : 0 < t .long % t .short → t .long - all-cuts t * t .short ≡ t .long % t .short
-  inexact-rest h = rest-inexact (t .long) (t .short) short-pos h
+  all-holds : State-holds s odd (cut-state odd (all-cuts t) t)
+  all-holds = cut-holds s odd t (r .holds) (all-cuts t) all-left
 
   -- what the code asks for a step
   pub unreached : Unreached (s .count) t
-  unreached = record { longs-some = longs-pos; below = omega (arith, r .below) }
+  unreached = record { longs-positive = longs-positive (r .holds .lengths) (r .falls); below = r .below }
 
-module _ {k : Search} {s : Segment} {odd : Bool} {t : State} (a : Accepted s) (r : At-row k s odd t) where
   pub steppable : Steppable t
   unfolding cut-state
   steppable =
-      let w = r .stood in
       record {
-        whole = record {
-          short-some = short-pos r;
-          room = div-mul-le-self (t .long) (t .short);
-          within = omega (arith, w .shows, distance-below (w .stands) (le-of-lt (r .falls)));
-          fits = omega (arith, a .modulus-high, below (w .stands), points-fit w, points-fit (all-stood r), mul-le-mul-right (t .longs) (quotient-few r));
+        all = record {
+          short-positive = positive;
+          room = le-of-lt all-left;
+          within = distance-below (r .holds) falls;
+          below = least (r .holds) .below;
+          fits = omega (arith, r .searchable .unit-within, points-fit (cut-state odd (all-cuts t) t) all-holds);
         };
-        falls = le-of-lt (r .falls);
-        row = row-few (a .count-high) r;
+        falls = falls;
+        row = row-few r;
       }
 
--- ---- on to the next row
+  -- all cuts of a row after which the search goes on are not enough
+  passed : 0 < t .long % t .short → ends (s .count) t ≡ false → t .shorts + all-cuts t * t .longs + t .longs < s .count
+  passed h e = leb-false _ _ (sym (ends-inexact t positive h (s .count)) ∙ e)
 
-module _ {k : Search} {s : Segment} {odd : Bool} {t : State} (r : At-row k s odd t) where
-  abbrev next : State
-  next = regular-next odd (s .count) t
+  -- ---- on to the next row, where that is what is still to go
 
-  -- where that is what is still to go: done if its first configuration is enough
-  next-row : 0 < t .long % t .short
-      → reached k s ≡ from k (s .count) (suc (t .index)) (t .short) (t .long % t .short) (t .longs) (t .shorts + t .long / t .short * t .longs)
-      → Walk k s (not odd) next
-  unfolding regular-next cut-state
-  next-row h go = by-cases (decLe (s .count) (t .shorts + all-cuts t * t .longs + t .longs)) (λ l. at-end (reaches l)) (λ l. at-row (passes (omega arith)))
-    where
-      to-go : reached k s
-          ≡ from k (s .count) (suc (t .index)) (t .short) (t .long - all-cuts t * t .short) (t .longs) (t .shorts + all-cuts t * t .longs)
-      to-go = rw (inexact-rest r h, inexact r h) go
+  module _ (h : 0 < t .long % t .short) (go : reached-in k s ≡ after-row k s t) where
+    to-go : reached-in k s
+        ≡ reached-from k (s .count) (suc (t .index)) (t .short) (t .long - all-cuts t * t .short) (t .longs) (t .shorts + all-cuts t * t .longs)
+    to-go = rw (rest-inexact t positive h, cuts-inexact t positive h) go
 
-      falls : t .long - all-cuts t * t .short < t .short
-      falls = omega (arith, inexact-rest r h, mod-lt (t .long) (short-pos r))
+    rest-falls : t .long - all-cuts t * t .short < t .short
+    rest-falls = omega (arith, rest-inexact t positive h, mod-lt (t .long) positive)
 
-      reaches : s .count ≤ t .shorts + all-cuts t * t .longs + t .longs → At-end k s next
-      reaches l =
-          let w = turned-stood (all-stood r) (ends (s .count) t) in
-          record {
-            best = stood-best w;
-            shows = w .shows;
-            label =
-                to-go
-                ∙ row-reached k (s .count) (suc (t .index)) (t .short) (t .long - all-cuts t * t .short) (t .longs) (t .shorts + all-cuts t * t .longs) falls
-                (short-some (w .stands)) l;
-            fit = points-fit w;
-            over = ends-inexact t (short-pos r) h (s .count) ∙ le-leb (s .count) (t .shorts + all-cuts t * t .longs + t .longs) l;
-          }
+    -- the first configuration of that row is enough
+    next-reached : ends (s .count) t ≡ true → reached-in k s ≡ configuration (t .shorts + all-cuts t * t .longs + t .longs) (suc (t .index)) 0
+    unfolding cut-state
+    next-reached e =
+        to-go
+        ∙ row-reached k _ _ _ _ _ _ rest-falls (short-positive (turned all-holds .lengths)) (leb-true _ _ (sym (ends-inexact t positive h (s .count)) ∙ e))
 
-      passes : t .shorts + all-cuts t * t .longs + t .longs < s .count → At-row k s (not odd) next
-      passes l =
-          record {
-            stood = turned-stood (all-stood r) (ends (s .count) t);
-            falls = falls;
-            below = l;
-            to-go = to-go;
-            grown =
-                omega (
-                  arith,
-                  fib-next (t .index),
-                  r .grown,
-                  r .grown-before,
-                  ap (λ (n : ℕ). n * t .longs) (inexact r h),
-                  mul-le-mul-right (t .longs) (quotient-some r),
-                );
-            grown-before = r .grown;
-            going = ends-inexact t (short-pos r) h (s .count) ∙ lt-leb (s .count) (t .shorts + all-cuts t * t .longs + t .longs) l;
-          }
+    -- or the search goes on from it
+    next-running : ends (s .count) t ≡ false → Running k s (not odd) (regular-next odd (s .count) t)
+    unfolding regular-next cut-state
+    next-running e =
+        record {
+          searchable = r .searchable;
+          holds = turned all-holds;
+          falls = rest-falls;
+          below = passed h e;
+          to-go = to-go;
+          grown =
+              omega (
+                arith,
+                fib-next (t .index),
+                ap (λ (n : ℕ). n * t .longs) (cuts-inexact t positive h),
+                mul-le-mul-right (t .longs) (quotient-positive (t .long) (t .short) positive falls),
+              );
+          grown-before = r .grown;
+        }
 
 -- ---- the regular search
 
-module _ {s : Segment} {odd : Bool} {t : State} (r : At-row regular s odd t) where
-  period-end : t .long % t .short ≡ 0 → At-end regular s (next r)
-  unfolding regular-next cut-state
-  period-end e =
-      let w = turned-stood (all-stood r) (ends (s .count) t) in
-      record {
-        best = stood-best w;
-        shows = w .shows;
-        label =
-            r .to-go ∙ regular-period (s .count) (t .index) (t .long) (t .short) (t .shorts) (t .longs) (r .falls) (short-pos r) (r .below) e
-            ∙ relabelled (omega (arith, ap (λ (n : ℕ). n * t .longs) (exact r e))) refl refl;
-        fit = points-fit w;
-        over = ends-exact t (short-pos r) (le-of-lt (r .falls)) e (s .count);
-      }
-
-  pub regular-step : Walk regular s (not odd) (regular-next odd (s .count) t)
-  unfolding regular-next
-  regular-step =
-      ⊎-elim (λ e. at-end (period-end e))
-      (λ h. next-row r h
-      (r .to-go ∙ regular-on (s .count) (t .index) (t .long) (t .short) (t .shorts) (t .longs) (r .falls) (short-pos r) (r .below)))
-      (eq-zero-or-pos (t .long % t .short))
+pub regular-step : {s : Segment} {odd : Bool} {t t′ : State} → Running regular s odd t → t′ ≡ regular-next odd (s .count) t
+    → Search-invariant regular s (not odd) t′
+unfolding regular-next cut-state
+regular-step {s} {odd} {t} r e =
+    let on = r .to-go ∙ regular-on _ _ _ _ _ _ (r .falls) (positive r) (r .below) in
+    rw e (record {
+      ended = λ e. ended-at _ (turned (all-holds r)) (⊎-elim
+          (λ z. r .to-go ∙ regular-period _ _ _ _ _ _ (r .falls) (positive r) (r .below) z
+          ∙ relabelled (omega (arith, ap (λ (n : ℕ). n * t .longs) (cuts-exact t (positive r) (falls r) z))) refl refl)
+          (λ h. next-reached r h on e)
+          (eq-zero-or-pos (t .long % t .short)));
+      running = λ e. next-running r (leaves-some t (positive r) (falls r) (s .count) e) on e;
+    })
 
 -- ---- the fine search
 
-module _ {s : Segment} {odd : Bool} {t : State} (r : At-row fine s odd t) where
+module _ {s : Segment} {odd : Bool} {t : State} (r : Running fine s odd t) where
   -- as many cuts as reach the count, at most all
   abbrev cuts : ℕ
   cuts = last-cuts (s .count) t
 
-  cuts-left : cuts * t .short < t .long
-  cuts-left = omega (arith, all-left r, mul-le-mul-right (t .short) (min-le-right (cuts-to (s .count) t) (all-cuts t)))
+  cuts-hold : State-holds s odd (cut-state odd cuts t)
+  cuts-hold = cut-holds s odd t (r .holds) cuts (omega (arith, all-left r, mul-le-mul-right (t .short) (min-le-right (cuts-to (s .count) t) (all-cuts t))))
 
-  module _ (stays : Stays (s .count) t) where
-    -- they reach the count, or the last configuration of all
-    reached-or-last : (s .count ≤ points t + cuts * t .longs) ⊎ ((suc cuts ≡ t .long / t .short) × (t .long % t .short ≡ 0))
-    reached-or-last =
-        ⊎-elim
-        (λ l. let e : cuts ≡ cuts-to (s .count) t = omega arith in
-        inl
-        (omega (
-          arith,
-          r .below,
-          lt-div-mul-add {a = s .count - t .shorts - 1} (longs-pos r),
-          ap (λ (i : ℕ). i * t .longs) e,
-        )))
-        (λ e. inr (omega (arith, e .0, exact r (e .1)), e .1)) (fewer-or-last (s .count) t (unreached r) stays)
+  -- they end the search where that is the label
+  at-finish : (whole : Bool) → reached-in fine s ≡ configuration (t .longs + (t .shorts + cuts * t .longs)) (t .index + cond whole 1 0) (cond whole 0 cuts)
+      → Ended fine s (finished whole (cut-state odd cuts t))
+  unfolding cut-state
+  at-finish whole e = ended-at (finished whole (cut-state odd cuts t)) cuts-hold e
 
-    part-end : At-end fine s (cut-state odd cuts t)
-    unfolding cut-state
-    part-end =
-        let w = cut-stood (r .stood) cuts cuts-left in
-        record {
-          best = stood-best w;
-          shows = w .shows;
-          label =
-              r .to-go
-              ∙ fine-part (s .count) (t .index) (t .long) (t .short) (t .shorts) (t .longs) (r .falls) (short-pos r) cuts
-              (in-row (s .count) t (unreached r) (short-pos r) (le-of-lt (r .falls)) stays)
-              (λ _. before-below (s .count) t (unreached r))
-              reached-or-last
-              ∙ relabelled (omega arith) refl refl;
-          fit = points-fit w;
-          over = refl;
-        }
+  -- the configuration before them is below the count
+  before-below : t .shorts + cuts * t .longs < s .count
+  before-below =
+      omega (arith, div-mul-le-self (s .count - t .shorts - 1) (t .longs), mul-le-mul-right (t .longs) (min-le-left (cuts-to (s .count) t) (all-cuts t)))
 
-  passed : Passes (s .count) t → Walk fine s (not odd) (next r)
-  passed p =
-      next-row r (p .1)
-      (r .to-go
-      ∙ fine-on (s .count) (t .index) (t .long) (t .short) (t .shorts) (t .longs) (r .falls) (short-pos r)
-      (omega (arith, p .0, ap (λ (i : ℕ). i * t .longs) (inexact r (p .1)))) (p .1))
+  -- and theirs is not, where they are fewer than all
+  enough : cuts < all-cuts t → s .count ≤ points t + cuts * t .longs
+  enough l =
+      let e : cuts ≡ cuts-to (s .count) t = omega arith in
+      omega (arith, lt-div-mul-add {a = s .count - t .shorts - 1} (unreached r .longs-positive), ap (λ (i : ℕ). i * t .longs) e)
 
-  pub fine-step : Walk fine s (not odd) (fine-next odd (s .count) t)
+  on-fine : t .shorts + quotient t * t .longs < s .count → 0 < t .long % t .short → reached-in fine s ≡ after-row fine s t
+  on-fine l h = r .to-go ∙ fine-on _ _ _ _ _ _ (r .falls) (positive r) l h
+
+  -- the whole row, where they are as many as the quotient
+  whole-reached : cuts ≡ quotient t → ends (s .count) t ≡ true → reached-in fine s ≡ configuration (t .longs + (t .shorts + cuts * t .longs)) (t .index + 1) 0
+  whole-reached q e =
+      ⊎-elim (λ z. absurd (omega (arith, min-le-right (cuts-to (s .count) t) (all-cuts t), cuts-exact t (positive r) (falls r) z)))
+      (λ h. next-reached r h (on-fine (rw q at before-below) h) e
+      ∙ relabelled (omega (arith, ap (λ (i : ℕ). i * t .longs) (q ∙ sym (cuts-inexact t (positive r) h)))) (omega arith) refl)
+      (eq-zero-or-pos (t .long % t .short))
+
+  -- else a part of it: the first that reaches the count, or the last configuration of all
+  part-reached : (cuts ≡ quotient t → ⊥) → reached-in fine s ≡ configuration (t .longs + (t .shorts + cuts * t .longs)) (t .index + 0) cuts
+  part-reached n =
+      let m = min-le-right (cuts-to (s .count) t) (all-cuts t) in
+      let last : (cuts < quotient t) × ((s .count ≤ points t + cuts * t .longs) ⊎ ((suc cuts ≡ quotient t) × (t .long % t .short ≡ 0)))
+      = ⊎-elim (λ z. let x = cuts-exact t (positive r) (falls r) z in
+      (omega arith, by-cases (decLt cuts (all-cuts t)) (λ l. inl (enough l)) (λ l. inr (omega arith, z))))
+      (λ h. let l : cuts < all-cuts t = omega (arith, cuts-inexact t (positive r) h) in (omega (arith, cuts-inexact t (positive r) h), inl (enough l)))
+      (eq-zero-or-pos (t .long % t .short)) in
+      r .to-go ∙ fine-part _ _ _ _ _ _ (r .falls) (positive r) cuts (last .0) (λ _. before-below) (last .1) ∙ relabelled (omega arith) (omega arith) refl
+
+  pub fine-step : {t′ : State} → t′ ≡ fine-next odd (s .count) t → Search-invariant fine s (not odd) t′
   unfolding fine-next
-  fine-step =
-      ⊎-elim (λ p. rw (is-passed-true (s .count) t (short-pos r) (le-of-lt (r .falls)) p) (passed p))
-      (λ n. rw (is-passed-false (s .count) t (short-pos r) (le-of-lt (r .falls)) n) (at-end (part-end n))) (passes-or-stays (s .count) t)
+  fine-step e = rw e (by (ends (s .count) t) refl)
+    where
+      by : (b : Bool) → ends (s .count) t ≡ b → Search-invariant fine s (not odd) (fine-next odd (s .count) t)
+      by false e =
+          let h = leaves-some t (positive r) (falls r) (s .count) e in
+          let l : t .shorts + quotient t * t .longs < s .count
+          = omega (arith, passed r h e, ap (λ (i : ℕ). i * t .longs) (cuts-inexact t (positive r) h)) in
+          rw e (runs (next-running r h (on-fine l h) e) (unfold regular-next in e))
+      by true e =
+          rw e
+          (by-cases (ℕ-discrete cuts (quotient t)) (λ q. rw (eq-eqb cuts (quotient t) q) (ends-here (at-finish true (whole-reached q e)) refl))
+          (λ n. rw (ne-eqb cuts (quotient t) n) (ends-here (at-finish false (part-reached n)) refl)))
 
--- ---- the index: a step that does not end the search goes one row on, and none goes back
+-- ---- the index: a step that does not end the search goes one row on
 
-pub regular-index : (odd : Bool) (N : ℕ) (t : State) → regular-next odd N t .index ≡ suc (t .index)
+pub regular-index : (odd : Bool) (N : ℕ) (t : State) {t′ : State} → t′ ≡ regular-next odd N t → t′ .index ≡ suc (t .index)
 unfolding regular-next cut-state
-regular-index odd N t = refl
+regular-index odd N t e = rw e
 
-pub fine-index : (odd : Bool) (N : ℕ) (t : State)
-    → (t .index ≤ fine-next odd N t .index) × (fine-next odd N t .done ≡ false → fine-next odd N t .index ≡ suc (t .index))
-unfolding fine-next regular-next cut-state
-fine-index odd N t = go (is-passed N t)
+pub fine-index : (odd : Bool) (N : ℕ) (t : State) {t′ : State} → t′ ≡ fine-next odd N t → t′ .done ≡ false → t′ .index ≡ suc (t .index)
+unfolding fine-next
+fine-index odd N t e = rw e (by (ends N t) refl)
   where
-    go : (b : Bool)
-        → let r = cond b (regular-next odd N t) (cut-state odd (last-cuts N t) t) in
-        (t .index ≤ r .index) × (r .done ≡ false → r .index ≡ suc (t .index))
-    go true = (omega arith, λ _. refl)
-    go false = (omega arith, λ e. absurd (false≢true (sym e)))
+    by : (b : Bool) → ends N t ≡ b → fine-next odd N t .done ≡ false → fine-next odd N t .index ≡ suc (t .index)
+    by true e = rw e (λ d. absurd (false≢true (sym d)))
+    by false e = rw e (λ _. regular-index odd N t refl)

@@ -1,4 +1,4 @@
-pub mod Segment
+pub mod Accepted
 pub mod Search
 pub mod Answer
 pub mod State

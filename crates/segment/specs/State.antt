@@ -1,15 +1,17 @@
--- The steps of the searches as functions of numbers, for the contracts of the functions that take them. What they are for is proved in
--- proofs/Walk.antt and proofs/Steps.antt. Assumes nothing: these are definitions.
+-- The steps of the searches as functions of numbers, for the contracts of the functions that take them, and what holds of the state in which a
+-- search ends. proofs/Invariant.antt and proofs/Steps.antt show what the steps are for. Assumes nothing: these are definitions.
 use mathlib.Core.Path.{_≡_}
 use mathlib.Core.Bool.{Bool, true, false, _||_, cond}
 use Prim.Native.Nat.{ℕ, suc, _+_, _-_, _*_, _/_, _^_, _≤_, _<_, min}
 use lib.Dec.{eqb, leb, ltb}
-use Rattle.segment.specs.Answer.{verdict-at}
-use Rattle.segment.specs.declared.Regular.{Regular}
-use Rattle.segment.specs.declared.Fine.{Fine}
+use Rattle.expansion.specs.Configurations.{configuration}
+use Rattle.expansion.specs.Reached.{Search}
+use Rattle.geometry.specs.Segment.{Segment, residue}
+use Rattle.geometry.specs.TwoLength.{Least}
+use Rattle.segment.specs.Search.{reached-in}
 use Rattle.segment.specs.declared.state.State.{State}
 use Rattle.segment.specs.declared.state.Cuts.{Cuts}
-use Rattle.segment.specs.declared.state.Moved.{Moved}
+use Rattle.segment.specs.declared.state.Nearest.{Nearest}
 
 -- how many points there are
 abbrev pub points : State → ℕ
@@ -52,57 +54,61 @@ last-cuts N s = min (cuts-to N s) (all-cuts s)
 abbrev pub cuts-of : (number : ℕ) → State → Cuts
 cuts-of j s = record { number = j; rest = s .long - j * s .short }
 
--- there is room for so many cuts, and the numbers that they make are below 2^64
+-- there is room for so many cuts, and they make no more points than the largest unit
 pub record Cuttable (cuts : ℕ) (s : State) : Type 0 where
-  pub short-some : 0 < s .short
+  pub short-positive : 0 < s .short
   pub room : cuts * s .short ≤ s .long
   pub within : s .distance < s .long
-  pub fits : s .argument + (s .longs + s .shorts + cuts * s .longs) < 2 ^ 64
+  pub below : s .argument < points s
+  pub fits : points s + cuts * s .longs ≤ 2 ^ 62
 
 -- what is passed with the cuts is as it should be
 pub record Cutting (c : Cuts) (s : State) : Type 0 where
   pub able : Cuttable (c .number) s
   pub rest-is : c .rest ≡ s .long - c .number * s .short
 
--- as many cuts as the quotient can be made, one at least, and another row fits the budget
+-- all cuts can be made, one at least, and another row fits the budget
 pub record Steppable (s : State) : Type 0 where
-  pub whole : Cuttable (quotient s) s
+  pub all : Cuttable (all-cuts s) s
   pub falls : s .short ≤ s .long
   pub row : s .index < 29
 
 -- N is not reached
 pub record Unreached (N : ℕ) (s : State) : Type 0 where
-  pub longs-some : 0 < s .longs
-  pub below : s .shorts < N
+  pub longs-positive : 0 < s .longs
+  pub below : points s < N
 
--- ---- the argument and the distance
+-- ---- the point below the start
 
-abbrev pub shown : State → Moved
-shown s = record { argument = s .argument; distance = s .distance }
+abbrev pub nearest : State → Nearest
+nearest s = record { argument = s .argument; distance = s .distance }
 
--- those after so many cuts from the left end of the long gaps
-unfoldable pub carried-left : (cuts : ℕ) → State → Moved
-carried-left j s =
+-- the one after so many cuts from the left end of the long gaps
+unfoldable pub advanced-left : (cuts : ℕ) → State → Nearest
+advanced-left j s =
     let i : ℕ = min j (s .distance / s .short) in
     record { argument = s .argument + i * s .longs; distance = s .distance - i * s .short }
 
--- from their right end: only within a long gap, and only at or above what is left of it
-unfoldable pub carried-right : (cuts : ℕ) → State → Moved
-carried-right j s =
+-- of so many cuts from their right end, the highest that is not above the start
+unfoldable pub highest-cut : (cuts : ℕ) → State → Nearest
+highest-cut j s =
     let over : ℕ = s .distance - (s .long - j * s .short) in
     let i : ℕ = over / s .short in
-    cond (leb (s .longs) (s .argument) || ltb (s .distance) (s .long - j * s .short)) (shown s)
-    (record { argument = s .argument + (s .shorts + j * s .longs - i * s .longs); distance = over - i * s .short })
+    record { argument = s .argument + (s .shorts + j * s .longs - i * s .longs); distance = over - i * s .short }
+
+-- the one after them: only within a long gap, and only at or above what is left of it
+unfoldable pub advanced-right : (cuts : ℕ) → State → Nearest
+advanced-right j s = cond (leb (s .longs) (s .argument) || ltb (s .distance) (s .long - j * s .short)) (nearest s) (highest-cut j s)
 
 -- even rows are cut from the left, odd ones from the right
-abbrev pub carried : (odd : Bool) → (cuts : ℕ) → State → Moved
-carried false j s = carried-left j s
-carried true j s = carried-right j s
+abbrev pub advanced : (odd : Bool) → (cuts : ℕ) → State → Nearest
+advanced false j s = advanced-left j s
+advanced true j s = advanced-right j s
 
 -- ---- rows
 
 -- after the cuts: as many long gaps, and as many short ones more for each cut
-abbrev pub row-of : State → Cuts → Moved → State
+abbrev pub row-of : State → Cuts → Nearest → State
 row-of s c m =
     record {
       long = c .rest;
@@ -118,7 +124,7 @@ row-of s c m =
 
 -- so many cuts of a row
 unfoldable pub cut-state : (odd : Bool) → (cuts : ℕ) → State → State
-cut-state odd j s = row-of s (cuts-of j s) (carried odd j s)
+cut-state odd j s = row-of s (cuts-of j s) (advanced odd j s)
 
 -- on to the next row, where what is left of the long gaps is the short length
 abbrev pub in-next-row : (done : Bool) → State → State
@@ -143,34 +149,31 @@ ends N s = leb N (s .shorts + all-cuts s * s .longs + s .longs) || eqb (s .short
 unfoldable pub regular-next : (odd : Bool) → (N : ℕ) → State → State
 regular-next odd N s = in-next-row (ends N s) (cut-state odd (all-cuts s) s)
 
--- every configuration of the row is below N, and there is a row after it
-unfoldable pub is-passed : (N : ℕ) → State → Bool
-is-passed N s = cond (leb N (s .shorts + all-cuts s * s .longs)) false (ltb (s .long - all-cuts s * s .short) (s .short))
+-- the end of a fine search after cuts of a row; the whole row has the label of the next one
+abbrev pub finished : (whole : Bool) → State → State
+finished whole s =
+    record {
+      long = s .long;
+      short = s .short;
+      longs = s .longs;
+      shorts = s .shorts;
+      argument = s .argument;
+      distance = s .distance;
+      part = cond whole 0 (s .part);
+      index = s .index + cond whole 1 0;
+      done = true;
+    }
 
--- the fine step: all cuts of a row that is passed, else those that reach N, at most all
+-- the fine step: all cuts of a row where the search goes on after it, else those that reach N, at most all
 unfoldable pub fine-next : (odd : Bool) → (N : ℕ) → State → State
-fine-next odd N s = cond (is-passed N s) (regular-next odd N s) (cut-state odd (last-cuts N s) s)
+fine-next odd N s =
+    cond (ends N s) (finished (eqb (last-cuts N s) (quotient s)) (cut-state odd (last-cuts N s) s)) (regular-next odd N s)
 
 -- ---- the end
 
--- what is shown of the state in which a search ends
-unfoldable pub regular-shown-at : State → (window : ℕ) → Regular
-regular-shown-at s w =
-    record {
-      count = points s;
-      quotients = s .index;
-      distance = s .distance;
-      argument = s .argument;
-      verdict = verdict-at (s .distance) w;
-    }
-
-unfoldable pub fine-shown-at : State → (window : ℕ) → Fine
-fine-shown-at s w =
-    record {
-      count = points s;
-      index = s .index;
-      part = s .part;
-      distance = s .distance;
-      argument = s .argument;
-      verdict = verdict-at (s .distance) w;
-    }
+-- a state at the configuration that a search reaches, with the argument of least residue below its count
+pub record Ended (k : Search) (s : Segment) (t : State) : Type 0 where
+  pub least : Least s (points t) (t .argument)
+  pub shows : t .distance ≡ residue s (t .argument)
+  pub label : reached-in k s ≡ configuration (points t) (t .index) (t .part)
+  pub fits : points t ≤ s .unit

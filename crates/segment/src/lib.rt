@@ -1,10 +1,11 @@
 // The regular and the fine search of a segment, the line (start - step·x) mod modulus over the arguments x below count: each shows the one
 // argument of least residue below the count that it reaches, and clears the segment where that residue is no less than the window.
 ghost use mathlib.Core.Path.{_≡_};
-ghost use Prim.Native.Nat.{_<_, _^_};
-ghost use Rattle.segment.specs.Segment.{segment, refusal};
-ghost use Rattle.segment.specs.Answer.{regular-answer, fine-answer, verdict-at};
-ghost use Rattle.segment.specs.State.{points, regular-shown-at, fine-shown-at};
+ghost use Rattle.expansion.specs.Reached.Search.{regular, fine};
+ghost use Rattle.segment.specs.Accepted.{asked, refusal, Searchable};
+ghost use Rattle.segment.specs.Search.{verdict-at};
+ghost use Rattle.segment.specs.Answer.{regular-answer, fine-answer};
+ghost use Rattle.segment.specs.State.{Ended};
 
 mod state;
 
@@ -52,18 +53,13 @@ pub enum FineAnswer {
     Shown(Fine),
 }
 
-// 2^62
-const LARGEST_MODULUS: u64 = 4611686018427387904;
-
 const LARGEST_COUNT: u64 = 1048576;
 
 // How many steps a search may take, each of which goes through a row. Every accepted segment is done by then.
 const BUDGET: u32 = 29;
 
 // The regular search: from each quotient to the next, to the first regular configuration that has at least as many points as the count,
-// or to that of the period where the count exceeds it. An even and an odd row take turns; the index tells the steps taken.
-// Refused: 1 where the modulus is outside 2 to 2^62, else 2 where the step is not below it, else 3 where the start is not, else 4 where the
-// count is outside 1 to 1,048,576, else 5 where the window is above the modulus.
+// or to that of the period where the count exceeds it. Refused as `refuse` says.
 pub fn regular_search(modulus: u64, step: u64, start: u64, count: u64, window: u64) -> RegularAnswer
     ensures { λ r. ⌜ r ≡ regular-answer modulus step start count window ⌝ }
 {
@@ -71,22 +67,14 @@ pub fn regular_search(modulus: u64, step: u64, start: u64, count: u64, window: u
     if number != 0 {
         return RegularAnswer::Refused(number);
     }
-    let mut state = first(modulus, step, start, count);
-    if state.done {
-        return RegularAnswer::Shown(show_regular(state, window));
-    }
-    while state.index < BUDGET {
-        state = regular_even(state, count);
-        if state.done {
-            return RegularAnswer::Shown(show_regular(state, window));
-        }
-        state = regular_odd(state, count);
-        if state.done {
-            return RegularAnswer::Shown(show_regular(state, window));
-        }
-    }
-    // No accepted segment comes here: all are done within the budget.
-    RegularAnswer::Shown(show_regular(state, window))
+    let end = regular_end(modulus, step, start, count);
+    RegularAnswer::Shown(Regular {
+        count: end.longs + end.shorts,
+        quotients: end.index,
+        distance: end.distance,
+        argument: end.argument,
+        verdict: judge(end.distance, window),
+    })
 }
 
 // The fine search: the same over the fine configurations, so that it stops at no more points; refused in the same cases.
@@ -97,36 +85,25 @@ pub fn fine_search(modulus: u64, step: u64, start: u64, count: u64, window: u64)
     if number != 0 {
         return FineAnswer::Refused(number);
     }
-    let mut state = first(modulus, step, start, count);
-    if state.done {
-        return FineAnswer::Shown(show_fine(state, window));
-    }
-    while state.index < BUDGET {
-        state = fine_even(state, count);
-        if state.done {
-            return FineAnswer::Shown(show_fine(state, window));
-        }
-        state = fine_odd(state, count);
-        if state.done {
-            return FineAnswer::Shown(show_fine(state, window));
-        }
-    }
-    // No accepted segment comes here: all are done within the budget.
-    FineAnswer::Shown(show_fine(state, window))
+    let end = fine_end(modulus, step, start, count);
+    FineAnswer::Shown(Fine {
+        count: end.longs + end.shorts,
+        index: end.index,
+        part: end.part,
+        distance: end.distance,
+        argument: end.argument,
+        verdict: judge(end.distance, window),
+    })
 }
 
-// The number of the first condition that a segment fails, or 0.
+// The number of the first condition that does not hold: 1 and 2 as for the expansion of the modulus and the step, else 3 for a start that is not
+// below the modulus, else 4 for a count outside 1 to 1,048,576, else 5 for a window above the modulus. 0 where all hold.
 pub fn refuse(modulus: u64, step: u64, start: u64, count: u64, window: u64) -> u32
-    ensures { λ r. ⌜ r ≡ refusal (segment modulus step start count window) ⌝ }
+    ensures { λ r. ⌜ r ≡ refusal (asked modulus step start count window) ⌝ }
 {
-    if modulus < 2 {
-        return 1;
-    }
-    if LARGEST_MODULUS < modulus {
-        return 1;
-    }
-    if modulus <= step {
-        return 2;
+    let number = expansion::refuse(modulus, step);
+    if number != 0 {
+        return number;
     }
     if modulus <= start {
         return 3;
@@ -143,31 +120,50 @@ pub fn refuse(modulus: u64, step: u64, start: u64, count: u64, window: u64) -> u
     0
 }
 
-fn show_regular(state: State, window: u64) -> Regular
-    requires { ⌜ points state < 2 ^ 64 ⌝ }
-    ensures { λ r. ⌜ r ≡ regular-shown-at state window ⌝ }
+// The state in which the regular search ends: an even and an odd row take turns, and the index tells the steps taken. The window plays no part.
+fn regular_end(modulus: u64, step: u64, start: u64, count: u64) -> State
+    requires { ⌜ Searchable (asked modulus step start count 0) ⌝ }
+    ensures { λ r. ⌜ Ended regular (asked modulus step start count 0) r ⌝ }
 {
-    Regular {
-        count: state.longs + state.shorts,
-        quotients: state.index,
-        distance: state.distance,
-        argument: state.argument,
-        verdict: judge(state.distance, window),
+    let mut state = first(modulus, step, start, count);
+    if state.done {
+        return state;
     }
+    while state.index < BUDGET {
+        state = regular_even(state, count);
+        if state.done {
+            return state;
+        }
+        state = regular_odd(state, count);
+        if state.done {
+            return state;
+        }
+    }
+    // No accepted segment comes here: all are done within the budget.
+    state
 }
 
-fn show_fine(state: State, window: u64) -> Fine
-    requires { ⌜ points state < 2 ^ 64 ⌝ }
-    ensures { λ r. ⌜ r ≡ fine-shown-at state window ⌝ }
+// The same for the fine search.
+fn fine_end(modulus: u64, step: u64, start: u64, count: u64) -> State
+    requires { ⌜ Searchable (asked modulus step start count 0) ⌝ }
+    ensures { λ r. ⌜ Ended fine (asked modulus step start count 0) r ⌝ }
 {
-    Fine {
-        count: state.longs + state.shorts,
-        index: state.index,
-        part: state.part,
-        distance: state.distance,
-        argument: state.argument,
-        verdict: judge(state.distance, window),
+    let mut state = first(modulus, step, start, count);
+    if state.done {
+        return state;
     }
+    while state.index < BUDGET {
+        state = fine_even(state, count);
+        if state.done {
+            return state;
+        }
+        state = fine_odd(state, count);
+        if state.done {
+            return state;
+        }
+    }
+    // No accepted segment comes here: all are done within the budget.
+    state
 }
 
 fn judge(distance: u64, window: u64) -> Verdict

@@ -8,16 +8,13 @@ use Rattle.c_api.proofs.number_of.Tie as tie
 enum-told : tie.Need-enum-told
 enum-told c = search needs
 
-enum-told-2 : tie.Need-enum-told-2
-enum-told-2 c = search needs
-
-returns : tie.Need-returns
+clear : tie.Need-returns
 unfolding verdict-number
-returns c = sym (ap verdict-number (c .enum-told .given .1))
+clear c = sym (ap verdict-number (c .enum-told .given .1))
 
-returns-2 : tie.Need-returns-2
+possible : tie.Need-returns-2
 unfolding verdict-number
-returns-2 c = sym (ap verdict-number (c .enum-told2 .given .1))
+possible c = sym (ap verdict-number (c .enum-told2 .given .1))
 
 pub number-of-spec : {M : Type 1} → statement M
-number-of-spec = tie.close (tie.spec enum-told enum-told-2 returns returns-2)
+number-of-spec = tie.close (tie.spec enum-told (λ c. search needs) clear possible)

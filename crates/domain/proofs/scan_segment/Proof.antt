@@ -1,88 +1,71 @@
--- `domain::scan_segment` meets its contract: the segment is scanned as a domain without a curve. Assumes nothing.
+-- `domain::scan_segment` meets its contract: the segment is scanned as a parabola without a curve. Assumes nothing.
 use mathlib.Core.Path.{_≡_, sym, _∙_, ap}
-use mathlib.Core.List.{List}
-use Prim.Native.Nat.{ℕ}
+use mathlib.Core.List.{List, map}
+use Prim.Native.Nat.{ℕ, _+_}
+use native.Mathlib.Nat.{le-of-lt}
 use native.Mathlib.Omega.{arith}
+use borrow.Author.Needs.{needs}
 use lib.ListN.{length}
 use lib.Seq.{sets}
-use Rattle.numbers.specs.Lists.{raised}
-use Rattle.segment.specs.Segment.{Segment, segment, refusal, Accepted}
-use Rattle.segment.proofs.Refusals.{accepted}
-use Rattle.domain.specs.Domain.{segment-hard-list}
-use Rattle.domain.specs.Answer.{scan-answer, scan-left}
-use Rattle.domain.proofs.Lines.{line-fair, line-list}
-use Rattle.domain.proofs.Answers.{scan-refused, scan-too-few, scan-listed}
-use borrow.Author.Needs.{needs}
+use Rattle.geometry.specs.Segment.{Segment, hard-list}
+use Rattle.segment.specs.Accepted.{asked, Accepted}
+use Rattle.segment.proofs.Promises as segment
+use Rattle.parabola.proofs.Promises as parabola
+use Rattle.domain.specs.Answer.{scan-answer, scan-list-after}
+use Rattle.domain.proofs.Answers.{line-in-range, scan-refused, scan-too-few, scan-listed}
 use Rattle.domain.proofs.scan_segment.Statement.{statement}
 use Rattle.domain.proofs.scan_segment.Tie as tie
 
 -- the segment of the call
 abbrev called : tie.Start → Segment
-called s = segment (s .args .modulus) (s .args .step) (s .args .start) (s .args .count) (s .args .window)
+called s = asked (s .args .modulus) (s .args .step) (s .args .start) (s .args .count) (s .args .window)
 
--- it is not refused
-unrefused : (c : tie.Else1) → refusal (called (c .before .before .before)) ≡ 0
-unrefused c = sym (c .before .refuse .ensures) ∙ c .if1 .left
-
+-- where it is not refused
 taken-on : (c : tie.Else1) → Accepted (called (c .before .before .before))
-taken-on c = accepted (unrefused c)
+taken-on c = segment.promised .accepted _ _ _ _ _ .0 (sym (c .before .refuse .ensures) ∙ c .if1 .left)
 
--- and as many hard arguments are counted as it has
-counted : (c : tie.After-count-hard) → c .count-hard .result ≡ length (segment-hard-list (called (c .before .before .before .before .before)))
-counted c = (rw (c .before .negate .ensures) at (c .count-hard .ensures)) ∙ ap length (line-list (taken-on (c .before .before)))
+-- as many hard arguments are counted as it has
+counted : (c : tie.After-count-hard) → c .count-hard .result ≡ length (hard-list (called (c .before .before .before .before .before)))
+counted c =
+    (rw (c .before .reduce .ensures) at (c .count-hard .ensures))
+    ∙ ap length (parabola.promised .lines _ (taken-on (c .before .before) .searchable .step-below) .lists)
 
-refuse-requires : tie.Need-refuse-requires
-refuse-requires c κs = search needs
-
-returns : tie.Need-returns
-unfolding scan-answer scan-left
-returns c = scan-refused _ _ (c .before .refuse .ensures) (c .if1 .taken)
-
-negate-requires : tie.Need-negate-requires
-negate-requires c κs = taken-on c .step-below
+refused : tie.Need-returns
+unfolding scan-answer scan-list-after
+refused c = let s = c .before .before .before in scan-refused (called s) (s .args .list .now) (c .before .refuse .ensures) (c .if1 .taken)
 
 count-hard-requires : tie.Need-count-hard-requires
-count-hard-requires c κs = rw (c .negate .ensures) (line-fair (taken-on (c .before)))
+count-hard-requires c κs = rw (c .reduce .ensures) (line-in-range (taken-on (c .before)))
 
-cast-if2 : tie.Need-cast-if2
-cast-if2 c = search needs
-
-returns-2 : tie.Need-returns-2
-unfolding scan-answer scan-left
-returns-2 c =
-    let k = c .before in
-    scan-too-few _ _ (unrefused (k .before .before)) (omega (arith, counted k, c .if2 .taken))
+too-many : tie.Need-returns-2
+unfolding scan-answer scan-list-after
+too-many c =
+    let at-count = c .before in
+    let s = at-count .before .before .before .before .before in
+    scan-too-few (called s) (s .args .list .now) (taken-on (at-count .before .before)) (omega (arith, counted at-count, c .if2 .taken))
 
 list-hard-requires : tie.Need-list-hard-requires
 list-hard-requires c κs =
-    let k = c .before .before in
-    (rw (k .before .negate .ensures) (line-fair (taken-on (k .before .before))), (k .count-hard .ensures, (omega arith, omega (arith, c .before .if2 .left))))
+    let at-count = c .before .before in (
+      rw (at-count .before .reduce .ensures) (line-in-range (taken-on (at-count .before .before))),
+      (at-count .count-hard .ensures, (omega arith, omega (arith, c .before .if2 .left))),
+    )
 
-same-length : tie.Need-same-length
-same-length c = search needs
-
-returns-3 : tie.Need-returns-3
-unfolding scan-answer scan-left
-returns-3 c =
-    let h = c .before .before in
-    let e = h .before .before in
-    let k = e .before in
-    let n = k .before in
-    let s = n .before .before .before .before in
-    scan-listed _ _ (unrefused (n .before)) (omega (arith, counted k, e .if2 .left)) (counted k)
-    ((rw (n .negate .ensures) at (h .list-hard .ensures))
-    ∙ ap (λ (xs : List ℕ). sets (s .args .list .now) 0 (raised 0 xs)) (line-list (taken-on (n .before))))
+listed : tie.Need-returns-3
+unfolding scan-answer scan-list-after
+listed c =
+    let at-listed = c .before .before in
+    let at-room = at-listed .before .before in
+    let at-count = at-room .before in
+    let at-reduce = at-count .before in
+    let a = taken-on (at-reduce .before) in
+    let s = at-reduce .before .before .before .before in
+    scan-listed (called s) (s .args .list .now) a (omega (arith, counted at-count, at-room .if2 .left)) (counted at-count)
+    ((rw (at-reduce .reduce .ensures) at (at-listed .list-hard .ensures))
+    ∙ ap (λ (xs : List ℕ). sets (s .args .list .now) 0 (map (λ (x : ℕ). 0 + x) xs)) (parabola.promised .lines _ (a .searchable .step-below) .lists))
 
 pub scan-segment-spec : {M : Type 1} → statement M
 scan-segment-spec =
     tie.close
-    (tie.spec
-    refuse-requires
-    returns
-    negate-requires
-    count-hard-requires
-    cast-if2
-    returns-2
-    list-hard-requires
-    same-length
-    returns-3)
+    (tie.spec (λ c κs. search needs) refused (λ c. le-of-lt (taken-on c .searchable .step-below)) (λ c κs. tt) count-hard-requires
+    (λ c. search needs) too-many list-hard-requires (λ c. search needs) listed)

@@ -1,59 +1,48 @@
 -- `domain::search_parts` meets its contract. Assumes nothing.
 use mathlib.Core.Path.{_≡_, ap}
+use Prim.Native.Nat.{_≤_}
 use native.Mathlib.Omega.{arith}
-use lib.ListN.{length}
-use Rattle.domain.specs.Domain.{hard-list}
-use Rattle.domain.specs.Phases.{looks-of}
-use Rattle.domain.specs.declared.phases.Looks.{Looks}
-use Rattle.domain.proofs.Answers.{parts-refused, parts-reported}
 use borrow.Author.Needs.{needs}
+use lib.ListN.{length}
+use Rattle.parabola.specs.Parabola.{hard-list}
+use Rattle.arc.specs.Arc.{parabola}
+use Rattle.domain.specs.Phases.{part-counts, report}
+use Rattle.domain.specs.declared.phases.Report.{Report}
+use Rattle.domain.proofs.Answers.{parts-refused, parts-searched}
 use Rattle.domain.proofs.search_parts.Statement.{statement}
 use Rattle.domain.proofs.search_parts.Tie as tie
 
--- as many hard arguments are counted as there are
-hard-is : (c : tie.After-look-at-parts) → c .look-at-parts .result .listed ≡ length (hard-list (c .before .before .args .domain))
-unfolding looks-of
-hard-is c = ap (λ (x : Looks). x .listed) (c .look-at-parts .ensures)
+-- what the parts have
+total-is : (c : tie.After-examine-parts) → c .examine-parts .result .total ≡ length (hard-list (parabola (c .before .before .args .arc)))
+unfolding report
+total-is c = ap (λ (r : Report). r .total) (c .examine-parts .ensures)
 
-look-at-parts-requires : tie.Need-look-at-parts-requires
-look-at-parts-requires c κs = search needs
+counts-are : (c : tie.After-examine-parts) → c .examine-parts .result .counts ≡ part-counts (parabola (c .before .before .args .arc))
+unfolding report
+counts-are c = ap (λ (r : Report). r .counts) (c .examine-parts .ensures)
 
-cast-if1 : tie.Need-cast-if1
-cast-if1 c = search needs
+-- there is room for it
+room : (c : tie.Else1) → let s = c .before .before .before .before in length (hard-list (parabola (s .args .arc))) ≤ length (s .args .list .now)
+room c = omega (arith, c .if1 .left, total-is (c .before .before))
 
-refused-requires : tie.Need-refused-requires
-refused-requires c κs = search needs
-
-returns : tie.Need-returns
-returns c =
-    let t = c .before in
-    rw (c .refused .ensures) (parts-refused _ _ (omega (arith, hard-is (t .before .before), t .if1 .taken)))
+too-many : tie.Need-returns
+too-many c =
+    let s = c .before .before .before .before in
+    parts-refused (parabola (s .args .arc)) (s .args .marks .now) (s .args .list .now) (omega (arith, c .if1 .taken, total-is (c .before .before)))
 
 list-parts-requires : tie.Need-list-parts-requires
-unfolding looks-of
 list-parts-requires c κs =
-    let e = c .before .before in
-    let l = e .before .before in
-    (l .before .before .pre .0, (ap (λ (x : Looks). x .counts) (l .look-at-parts .ensures), omega (arith, hard-is l, e .if1 .left)))
+    let at-else = c .before .before .before in
+    let at-report = at-else .before .before in
+    (at-report .before .before .pre .0, (counts-are at-report, room at-else))
 
-same-length : tie.Need-same-length
-same-length c = search needs
-
-returns-2 : tie.Need-returns-2
-returns-2 c =
-    let h = c .before .before .before in
-    let e = h .before .before .before in
-    let l = e .before .before in
-    parts-reported _ _ (l .before .before .pre .1) (omega (arith, hard-is l, e .if1 .left)) (l .look-at-parts .ensures) (h .list-parts .ensures)
+searched : tie.Need-returns-2
+searched c =
+    let at-listed = c .before .before in
+    let at-else = at-listed .before .before .before .before in
+    let at-report = at-else .before .before in
+    let s = at-report .before .before in
+    parts-searched (parabola (s .args .arc)) (s .args .marks .now) (s .args .list .now) (s .pre .1) (room at-else) (at-report .examine-parts .ensures) (at-listed .list-parts .ensures)
 
 pub search-parts-spec : {M : Type 1} → statement M
-search-parts-spec =
-    tie.close
-    (tie.spec
-    look-at-parts-requires
-    cast-if1
-    refused-requires
-    returns
-    list-parts-requires
-    same-length
-    returns-2)
+search-parts-spec = tie.close (tie.spec (λ c κs. c .before .pre .0) (λ c. search needs) too-many list-parts-requires (λ c. search needs) searched)

@@ -1,4 +1,5 @@
--- `range::is_ascending` meets its contract: the loop compares pair by pair. Assumes nothing.
+-- `range::is_ascending` meets its contract.
+-- The loop's invariant: `so_far` tells whether the first i entries ascend strictly. The measure is how many entries are left. Assumes nothing.
 use mathlib.Core.Logic.{⊎-elim}
 use Prim.Native.Nat.{_-_}
 use native.Mathlib.Omega.{arith}
@@ -9,34 +10,10 @@ use Rattle.range.proofs.is_ascending.Statement.{statement}
 use Rattle.range.proofs.is_ascending.Tie as tie
 
 abbrev Inv-loop : tie.InvT-loop
-Inv-loop list so-far₀ i₀ so-far i = Compared list so-far i
+Inv-loop list _ _ so-far i = Compared list so-far i
 
 abbrev μ-loop : tie.MeasureT-loop
-μ-loop list so-far₀ i₀ so-far i = length list - i
-
-loop-holds : tie.Need-loop-holds Inv-loop μ-loop
-loop-holds c = start (c .args .list .now)
-
-mul-if1 : tie.Need-mul-if1 Inv-loop μ-loop
-mul-if1 c = search needs
-
-shared-slice-read-if1 : tie.Need-shared-slice-read-if1 Inv-loop μ-loop
-shared-slice-read-if1 c = search needs
-
-sub-if1 : tie.Need-sub-if1 Inv-loop μ-loop
-sub-if1 c = search needs
-
-mul-if1-2 : tie.Need-mul-if1-2 Inv-loop μ-loop
-mul-if1-2 c = search needs
-
-shared-slice-read-if1-2 : tie.Need-shared-slice-read-if1-2 Inv-loop μ-loop
-shared-slice-read-if1-2 c = search needs
-
-add-i : tie.Need-add-i Inv-loop μ-loop
-add-i c = search needs
-
-loop-less : tie.Need-loop-less Inv-loop μ-loop
-loop-less c = search needs
+μ-loop list _ _ _ i = length list - i
 
 loop-again : tie.Need-loop-again Inv-loop μ-loop
 loop-again c =
@@ -44,22 +21,11 @@ loop-again c =
     ⊎-elim (λ w. rw (w .1) (next-not-up inv (omega arith) (w .0 .taken))) (λ w. rw (w .1) (next-up inv (omega arith) (w .0 .left)))
     (c .if1 .came)
 
-returns : tie.Need-returns Inv-loop μ-loop
-returns c = done (c .before .loop .inv) (omega arith)
+compared : tie.Need-returns Inv-loop μ-loop
+compared c = done (c .before .loop .inv) (omega arith)
 
 pub is-ascending-spec : {M : Type 1} → statement M
 is-ascending-spec =
     tie.close
-    (tie.spec
-    Inv-loop
-    μ-loop
-    loop-holds
-    mul-if1
-    shared-slice-read-if1
-    sub-if1
-    mul-if1-2
-    shared-slice-read-if1-2
-    add-i
-    loop-less
-    loop-again
-    returns)
+    (tie.spec Inv-loop μ-loop (λ c. start _) (λ c. search needs) (λ c. search needs) (λ c. search needs) (λ c. search needs) (λ c. search needs)
+    (λ c. search needs) (λ c. search needs) loop-again compared)

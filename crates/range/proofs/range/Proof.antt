@@ -1,54 +1,28 @@
 -- `range::range` meets its contract: the part of the list that lies where `locate` says. Assumes nothing.
-use mathlib.Core.Path.{_≡_, _∙_, ap}
-use Prim.Native.Nat.{ℕ, _+_, _-_, _≤_}
+use mathlib.Core.Path.{_≡_}
+use Prim.Native.Nat.{_+_, _-_, _≤_}
 use native.Mathlib.Omega.{arith}
 use borrow.Author.Needs.{needs}
-use lib.ListN.{length, take, drop}
+use lib.ListN.{length}
 use Rattle.range.proofs.Cases.{within}
 use Rattle.range.proofs.range.Statement.{statement}
 use Rattle.range.proofs.range.Tie as tie
 
-locate-requires : tie.Need-locate-requires
-locate-requires c κs = search needs
-
 -- the range ends within the list
 fits : (c : tie.After-struct-known)
     → c .before .locate .result .start + c .before .locate .result .count ≤ length (c .before .before .before .args .list .now)
-fits c =
-    let a = c .before .before .before .args in
-    rw (c .before .locate .ensures) (within (a .lo) (a .hi) (a .list .now))
+fits c = rw (c .before .locate .ensures) (within _ _ _)
 
-add-end : tie.Need-add-end
-add-end c = let l = fits c in search needs
-
-mul-result : tie.Need-mul-result
-mul-result c = let l = fits c in search needs
-
-sub-result : tie.Need-sub-result
-sub-result c = search needs
-
-part-result-start : tie.Need-part-result-start
-part-result-start c = search needs
-
-part-result-end : tie.Need-part-result-end
-part-result-end c = fits c
-
-returns : tie.Need-returns
-returns c =
-    let list = c .before .before .before .before .args .list .now in
-    let r = c .before .before .locate .result in
-    let e = c .before .before .locate .ensures in
+part : tie.Need-returns
+part c =
+    let at-locate = c .before .before in
+    let r = at-locate .locate .result in
+    let e = at-locate .locate .ensures in
     let n : r .start + r .count - r .start ≡ r .count = omega arith in
-    record { holds = ap (λ (k : ℕ). take k (drop (r .start) list)) n ∙ rw e; place = rw e }
+    record { holds = rw (n, e); place = rw e }
 
 pub range-spec : {M : Type 1} → statement M
 range-spec =
     tie.close
-    (tie.spec
-    locate-requires
-    add-end
-    mul-result
-    sub-result
-    part-result-start
-    part-result-end
-    returns)
+    (tie.spec (λ c κs. search needs) (λ c. let l = fits c in search needs) (λ c. let l = fits c in search needs) (λ c. search needs)
+    (λ c. search needs) fits part)

@@ -1,0 +1,40 @@
+-- All that is promised of arcs. Assumes nothing.
+use mathlib.Core.Path.{_≡_, refl, sym, _∙_}
+use Prim.Native.Nat.{ℕ, zero, suc}
+use native.Mathlib.Omega.{arith}
+use Rattle.expansion.specs.Reached.{Search}
+use Rattle.segment.specs.declared.Verdict.the-variants.{Clear}
+use Rattle.parabola.specs.Parabola.{triangle, value-at, slope-at}
+use Rattle.arc.specs.Arc.{parabola, refusal, verdict-with, arc-verdict}
+use Rattle.arc.specs.Promise.{Arc-correct, Promised}
+use Rattle.arc.specs.declared.Arc.{Arc}
+use Rattle.arc.proofs.Refusals.{accepted, refused}
+use Rattle.arc.proofs.Coverings.{covering-accepted, cleared, verdict-within}
+use Rattle.arc.proofs.Points.{inside, outside}
+
+-- what is cleared is within the bounds
+clear-within : (k : Search) (a : Arc) → arc-verdict k a ≡ Clear → refusal a ≡ 0
+unfolding arc-verdict
+clear-within k a e = by (refusal a) e
+  where
+    by : (n : ℕ) → verdict-with n k (parabola a) ≡ Clear → n ≡ 0
+    by zero e = omega arith
+    by (suc n) e = unfold verdict-with in absurd (let z : _≡_ {A = ℕ} 0 1 = cc in omega arith)
+
+arc-correct : (a : Arc) → Arc-correct a
+unfolding value-at slope-at triangle
+arc-correct a =
+    record {
+      numbers = (refl, refl, refl, refl, refl, refl);
+      refused = refused a;
+      accepted = accepted a;
+      inside = λ x range h. inside a x (accepted a .1 range) h;
+      outside = λ x. (λ e range h. outside a x .0 e (accepted a .1 range) h, λ n. outside a x .1 (λ e h. n (accepted a .0 e) h));
+      covering-accepted = covering-accepted;
+      verdict-is = λ k. verdict-within k a;
+      clear = λ k e. let range = accepted a .0 (clear-within k a e) in
+          (range, λ x h. omega (arith, h .1, cleared range k (sym (verdict-within k a range) ∙ e) x (h .0)));
+    }
+
+pub promised : Promised
+promised = record { arcs = arc-correct }

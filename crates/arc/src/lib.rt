@@ -1,0 +1,102 @@
+// Arcs: the parabola V(x) = (value + slope·x + curve·x(x-1)/2) mod modulus over the arguments x below count, in machine numbers. Its values and
+// slopes, and whether a search of the segment that covers it clears it. A domain is an arc, each of its parts is one, and a segment is one
+// without a curve.
+ghost use mathlib.Core.Path.{_≡_};
+ghost use Rattle.expansion.specs.Reached.Search.{regular, fine};
+ghost use Rattle.arc.specs.Arc.{refusal, point-answer, arc-verdict};
+
+mod covering;
+mod values;
+
+use covering::cover;
+use numbers::magnitude;
+use values::slope_at;
+use values::value_at;
+
+pub struct Arc {
+    pub modulus: u64,
+    pub value: u64,
+    pub slope: u64,
+    pub curve: i64,
+    pub count: u64,
+    pub window: u64,
+}
+
+// V(x) and the slope there, V(x + 1) - V(x); or x is not an argument of an arc within the bounds.
+pub enum PointAnswer {
+    Outside,
+    At { value: u64, slope: u64 },
+}
+
+// Of a curve, without its sign.
+const LARGEST_CURVE: u64 = 1048576;
+
+// The number of the first condition that does not hold: 1 to 5 as for the segment with the slope for its step and the value for its start, else 6
+// for a curve outside -1,048,576 to 1,048,576. 0 where all hold, and the arc is within the bounds.
+pub fn refuse(arc: Arc) -> u32
+    ensures { λ r. ⌜ r ≡ refusal arc ⌝ }
+{
+    let number = segment::refuse(arc.modulus, arc.slope, arc.value, arc.count, arc.window);
+    if number != 0 {
+        return number;
+    }
+    if LARGEST_CURVE < magnitude(arc.curve) {
+        return 6;
+    }
+    0
+}
+
+pub fn point_at(arc: Arc, x: u64) -> PointAnswer
+    ensures { λ r. ⌜ r ≡ point-answer arc x ⌝ }
+{
+    if refuse(arc) != 0 {
+        return PointAnswer::Outside;
+    }
+    if arc.count <= x {
+        return PointAnswer::Outside;
+    }
+    PointAnswer::At {
+        value: value_at(arc, x),
+        slope: slope_at(arc, x),
+    }
+}
+
+// Whether the regular search clears the covering segment: then no argument of the arc is hard. An arc outside the bounds is never cleared.
+pub fn regular_verdict(arc: Arc) -> segment::Verdict
+    ensures { λ r. ⌜ r ≡ arc-verdict regular arc ⌝ }
+{
+    if refuse(arc) != 0 {
+        return segment::Verdict::Possible;
+    }
+    let covering = cover(arc);
+    match segment::regular_search(
+        arc.modulus,
+        covering.step,
+        covering.start,
+        arc.count,
+        covering.window,
+    ) {
+        segment::RegularAnswer::Refused(_) => segment::Verdict::Possible,
+        segment::RegularAnswer::Shown(shown) => shown.verdict,
+    }
+}
+
+// The same by the fine search.
+pub fn fine_verdict(arc: Arc) -> segment::Verdict
+    ensures { λ r. ⌜ r ≡ arc-verdict fine arc ⌝ }
+{
+    if refuse(arc) != 0 {
+        return segment::Verdict::Possible;
+    }
+    let covering = cover(arc);
+    match segment::fine_search(
+        arc.modulus,
+        covering.step,
+        covering.start,
+        arc.count,
+        covering.window,
+    ) {
+        segment::FineAnswer::Refused(_) => segment::Verdict::Possible,
+        segment::FineAnswer::Shown(shown) => shown.verdict,
+    }
+}

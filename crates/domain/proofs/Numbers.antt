@@ -1,0 +1,44 @@
+-- Hard in the call's own numbers is hard by the definition of values. Assumes nothing.
+use mathlib.Core.Path.{_≡_, refl, ap}
+use mathlib.Core.Logic.{_↔_}
+use Prim.Native.Nat.{ℕ, _+_, _-_, _*_, _<_}
+use native.Mathlib.Omega.{arith}
+use lib.IntN.{ℤ, pos, subℕ, _+ℤ_, _*ℤ_}
+use Rattle.numbers.proofs.Congruences.{Congruent}
+use Rattle.numbers.proofs.Integers.{gain, loss, Difference, number, difference, sum, product, scaled, balanced, same-integer}
+use Rattle.parabola.specs.Parabola.{Hard, triangle, value-at}
+use Rattle.parabola.proofs.Laws.{triangle-twice, value-congruent, value-is}
+use Rattle.parabola.proofs.Promises.{promised}
+use Rattle.domain.specs.Domain.{parabola-of}
+use Rattle.domain.specs.Promise.{Hard-in-numbers}
+use Rattle.domain.specs.declared.Domain.{Domain}
+
+module _ (d : Domain) (x : ℕ) where
+  -- twice the terms of V(x), and k times twice the modulus
+  doubled : {k : ℤ} {a b : ℕ} → Difference k a b
+      → Difference (pos (2 * (d .value + d .slope * x)) +ℤ d .curve *ℤ pos (x * (x - 1)) +ℤ k *ℤ pos (2 * d .modulus))
+      (2 * (d .value + d .slope * x) + gain (d .curve) * (x * (x - 1)) + a * (2 * d .modulus)) (0 + loss (d .curve) * (x * (x - 1)) + b * (2 * d .modulus))
+  doubled p = sum (sum (number (2 * (d .value + d .slope * x))) (product (d .curve) (x * (x - 1)))) (scaled (2 * d .modulus) p)
+
+  -- x(x-1) is twice the triangle
+  twice : (n : ℕ) → n * (x * (x - 1)) ≡ 2 * (n * triangle x)
+  twice n = omega (arith, ap (λ (m : ℕ). n * m) (triangle-twice x))
+
+  pub hard-by-numbers : 0 < d .modulus → Hard (parabola-of d) x ↔ Hard-in-numbers d x
+  hard-by-numbers positive = (to, from)
+    where
+      to : Hard (parabola-of d) x → Hard-in-numbers d x
+      to h =
+          let c = value-congruent (parabola-of d) positive x in
+          let e = same-integer (number (2 * value-at (parabola-of d) x)) (doubled (difference (c .under) (c .over)))
+          (omega (arith, c .equal, twice (gain (d .curve)), twice (loss (d .curve)))) in
+          (h .0, (value-at (parabola-of d) x, promised .values (parabola-of d) positive .in-range x, h .1, (subℕ (c .under) (c .over), e)))
+
+      from : Hard-in-numbers d x → Hard (parabola-of d) x
+      from h =
+          let v = h .1 .0 in
+          let k = h .1 .3 .0 in
+          let e = balanced (h .1 .3 .1) (number (2 * v)) (doubled {k = k} {a = gain k} {b = loss k} (record { balance = refl })) in
+          let c : Congruent (d .modulus) (v + loss (d .curve) * triangle x) (d .value + d .slope * x + gain (d .curve) * triangle x)
+          = record { over = loss k; under = gain k; equal = omega (arith, e, twice (gain (d .curve)), twice (loss (d .curve))) } in
+          (h .0, omega (arith, h .1 .2, value-is (parabola-of d) positive x (h .1 .1) c))

@@ -1,0 +1,78 @@
+// What is printed of a job that is not refused: phase 1's verdict, the marks, and the hard arguments. Each function writes from a place on, as far
+// as there are places, and tells the place after what it wrote.
+ghost use mathlib.Core.Path.{_≡_};
+ghost use mathlib.Core.List.{[]};
+ghost use lib.Seq.{sets};
+ghost use Rattle.numbers.specs.Lists.{place-after};
+ghost use Rattle.text.specs.Text.{bytes, line};
+ghost use Rattle.job.specs.Output.{verdict-name, Small-marks, mark-digits, argument-lines, report};
+use text::put;
+use text::put_byte;
+use text::put_line;
+
+pub(crate) fn put_report(
+    first: segment::Verdict,
+    marks: &[u8],
+    arguments: &[u32],
+    out: &mut [u8],
+) -> usize
+    requires { ⌜ Small-marks (now marks) ⌝ }
+    ensures { λ r. ⌜ r ≡ place-after 0 (report first (now (marks .entry)) (now (arguments .entry))) (now (out .entry)) ⌝ }
+    ensures { λ r. ⌜ now (out .exit) ≡ sets (now (out .entry)) 0 (report first (now (marks .entry)) (now (arguments .entry))) ⌝ }
+{
+    let after_first = put_first(first, out, 0);
+    let after_parts = put_parts(marks, out, after_first);
+    let after_listed = put_line(b"listed=", arguments.len() as u64, out, after_parts);
+    put_arguments(arguments, out, after_listed)
+}
+
+// The line of phase 1's verdict.
+fn put_first(first: segment::Verdict, out: &mut [u8], at: usize) -> usize
+    ensures { λ r. ⌜ r ≡ place-after at (line (bytes "first=") (verdict-name first) []) (now (out .entry)) ⌝ }
+    ensures { λ r. ⌜ now (out .exit) ≡ sets (now (out .entry)) at (line (bytes "first=") (verdict-name first) []) ⌝ }
+{
+    match first {
+        segment::Verdict::Clear => put(b"first=cleared\n", out, at),
+        segment::Verdict::Possible => put(b"first=possible\n", out, at),
+    }
+}
+
+// The line of the marks.
+fn put_parts(marks: &[u8], out: &mut [u8], at: usize) -> usize
+    requires { ⌜ Small-marks (now marks) ⌝ }
+    ensures { λ r. ⌜ r ≡ place-after at (line (bytes "parts=") (mark-digits (now (marks .entry))) []) (now (out .entry)) ⌝ }
+    ensures { λ r. ⌜ now (out .exit) ≡ sets (now (out .entry)) at (line (bytes "parts=") (mark-digits (now (marks .entry))) []) ⌝ }
+{
+    let after_name = put(b"parts=", out, at);
+    let after_marks = put_marks(marks, out, after_name);
+    put_byte(10, out, after_marks)
+}
+
+// The marks, a digit each.
+fn put_marks(marks: &[u8], out: &mut [u8], at: usize) -> usize
+    requires { ⌜ Small-marks (now marks) ⌝ }
+    ensures { λ r. ⌜ r ≡ place-after at (mark-digits (now (marks .entry))) (now (out .entry)) ⌝ }
+    ensures { λ r. ⌜ now (out .exit) ≡ sets (now (out .entry)) at (mark-digits (now (marks .entry))) ⌝ }
+{
+    let mut i = 0;
+    let mut end = at;
+    while i < marks.len() {
+        end = put_byte(48 + marks[i], out, end);
+        i = i + 1;
+    }
+    end
+}
+
+// A line for each argument.
+fn put_arguments(arguments: &[u32], out: &mut [u8], at: usize) -> usize
+    ensures { λ r. ⌜ r ≡ place-after at (argument-lines (now (arguments .entry))) (now (out .entry)) ⌝ }
+    ensures { λ r. ⌜ now (out .exit) ≡ sets (now (out .entry)) at (argument-lines (now (arguments .entry))) ⌝ }
+{
+    let mut i = 0;
+    let mut end = at;
+    while i < arguments.len() {
+        end = put_line(b"argument=", arguments[i] as u64, out, end);
+        i = i + 1;
+    }
+    end
+}

@@ -1,0 +1,47 @@
+-- All that is promised of the definitions that other crates' promises cite. Assumes nothing.
+use mathlib.Core.Path.{_≡_, refl}
+use mathlib.Core.Logic.{inl, inr, ⊎-elim}
+use Prim.Native.Nat.{ℕ, _%_}
+use native.Mathlib.Nat.{mod-zero}
+use native.Mathlib.Omega.{arith}
+use Rattle.numbers.specs.Checklist.{unless-refused}
+use Rattle.numbers.specs.Integers.{_modulo_}
+use Rattle.numbers.specs.Lists.{joined}
+use Rattle.numbers.specs.Promise.{Conditions-correct, Buffers-correct, Promised}
+use Rattle.numbers.proofs.Checklists.{refuses, accepts}
+use Rattle.numbers.proofs.Integers.{mod-below, mod-multiple}
+use Rattle.numbers.proofs.Buffers.{front-correct}
+
+conditions-correct : Conditions-correct
+conditions-correct =
+    record {
+      none = λ n h. h;
+      fails = λ k n P cs f. (λ h. ⊎-elim (λ l. l .0) (λ r. absurd (f (r .0))) h, λ e. inl (e, f));
+      passes = λ k n P cs p. (λ h. ⊎-elim (λ l. absurd (l .1 p)) (λ r. r .1) h, λ h. inr (p, h));
+      all-hold = λ k P cs. (λ h. h, λ h. h);
+    }
+
+buffers-correct : Buffers-correct
+unfolding unless-refused joined
+buffers-correct =
+    record {
+      front = front-correct;
+      accepted = λ new old. refl;
+      refused = λ n new old. refl;
+      room = λ at xs old h. omega arith;
+      no-room = λ at xs old l h. omega arith;
+      beyond = λ at xs old h. omega arith;
+      no-list = λ f i. refl;
+      list-more = λ f n i. refl;
+    }
+
+pub promised : Promised
+unfolding _modulo_
+promised =
+    record {
+      conditions-are = conditions-correct;
+      checklists = λ cs. record { refuses = refuses cs; accepts = accepts cs };
+      remainders = λ z M. record { in-range = λ positive. mod-below positive z; multiple = λ positive. mod-multiple positive z };
+      remainders-by-zero = λ n. (mod-zero n, omega arith);
+      buffers = buffers-correct;
+    }

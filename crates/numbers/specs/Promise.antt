@@ -1,0 +1,55 @@
+-- What is promised of the definitions that the promises of other crates cite. `Promised`, at the end, is all of it; proofs/Promises.antt proves it.
+-- Assumes nothing: these are statements.
+use mathlib.Core.Path.{_≡_}
+use mathlib.Core.List.{List, [], _∷_, _++_}
+use mathlib.Core.Logic.{_↔_}
+use Prim.Native.Nat.{ℕ, suc, _+_, _≤_, _<_}
+use lib.IntN.{ℤ, pos, negsuc, _+ℤ_, _*ℤ_}
+use lib.ListN.{length}
+use Rattle.numbers.specs.Checklist.{Condition, Check, condition, conditions, first-failing, All-hold, Refused-by, Numbered, unless-refused}
+use Rattle.numbers.specs.Integers.{_modulo_}
+use Rattle.numbers.specs.Lists.{joined, overwrite-front, place-after, Buffer-correct}
+
+-- ---- refusals
+
+-- a number refuses where it is that of the first condition that does not hold; no number refuses where there is none left, and then all hold
+pub record Conditions-correct : Type 1 where
+  pub none : (n : ℕ) → Refused-by [] n → ⊥
+  pub fails : (k n : ℕ) (P : Type 0) (cs : List Condition) → (P → ⊥) → Refused-by (condition k P ∷ cs) n ↔ (n ≡ k)
+  pub passes : (k n : ℕ) (P : Type 0) (cs : List Condition) → P → Refused-by (condition k P ∷ cs) n ↔ Refused-by cs n
+  pub all-hold : (k : ℕ) (P : Type 0) (cs : List Condition) → All-hold (condition k P ∷ cs) ↔ (P × All-hold cs)
+
+-- a checklist answers 0 exactly where every condition holds, and a number exactly where that number refuses
+pub record Checklist-correct (cs : List Check) : Type 1 where
+  pub refuses : (n : ℕ) → (first-failing cs ≡ suc n) ↔ Refused-by (conditions cs) (suc n)
+  pub accepts : Numbered (conditions cs) → (first-failing cs ≡ 0) ↔ All-hold (conditions cs)
+
+-- ---- integers
+
+-- the remainder of an integer is the number from 0 to M - 1 that differs from it by a multiple of M. By 0 nothing is taken off, and a negative number
+-- leaves 0
+pub record Remainder-correct (z : ℤ) (M : ℕ) : Type 0 where
+  pub in-range : 0 < M → z modulo M < M
+  pub multiple : 0 < M → (k : ℤ) × (z ≡ pos (z modulo M) +ℤ k *ℤ pos M)
+
+-- ---- buffers
+
+-- a list over the front of a buffer, with room for it; what a buffer holds after a call; the place after a list that is written from a place on; lists one
+-- after another
+pub record Buffers-correct : Type 1 where
+  pub front : (xs old : List ℕ) → length xs ≤ length old → Buffer-correct xs old (overwrite-front xs old)
+  pub accepted : {A : Type 0} (new old : A) → unless-refused 0 new old ≡ new
+  pub refused : {A : Type 0} (n : ℕ) (new old : A) → unless-refused (suc n) new old ≡ old
+  pub room : (at : ℕ) (xs old : List ℕ) → at + length xs ≤ length old → place-after at xs old ≡ at + length xs
+  pub no-room : (at : ℕ) (xs old : List ℕ) → at ≤ length old → length old ≤ at + length xs → place-after at xs old ≡ length old
+  pub beyond : (at : ℕ) (xs old : List ℕ) → length old ≤ at → place-after at xs old ≡ at
+  pub no-list : (f : ℕ → List ℕ) (i : ℕ) → joined f 0 i ≡ []
+  pub list-more : (f : ℕ → List ℕ) (n i : ℕ) → joined f (suc n) i ≡ f i ++ joined f n (suc i)
+
+-- all of it
+pub record Promised : Type 1 where
+  pub conditions-are : Conditions-correct
+  pub checklists : (cs : List Check) → Checklist-correct cs
+  pub remainders : (z : ℤ) (M : ℕ) → Remainder-correct z M
+  pub remainders-by-zero : (n : ℕ) → (pos n modulo 0 ≡ n) × (negsuc n modulo 0 ≡ 0)
+  pub buffers : Buffers-correct

@@ -1,0 +1,7 @@
+mod Values
+mod Bounds
+mod Coverings
+mod Parts
+mod Lines
+pub mod Laws
+pub mod Promises

@@ -1,0 +1,2 @@
+pub mod Parabola
+pub mod Promise

@@ -1,0 +1,85 @@
+-- What is promised of a parabola, with the letters of document 01: M the unit, c0 the value, c1 the slope, s the curve, N the count, w the window.
+-- `Promised`, at the end, is all of it; proofs/Promises.antt proves it. Assumes nothing: these are statements.
+use mathlib.Core.Path.{_≡_}
+use mathlib.Core.List.{map}
+use Prim.Native.Nat.{ℕ, suc, _+_, _-_, _*_, _/_, _%_, _≤_, _<_, min}
+use lib.IntN.{pos, negsuc, natAbs, _+ℤ_, _*ℤ_}
+use Rattle.numbers.specs.Integers.{_modulo_}
+use Rattle.numbers.specs.Lists.{Enumerates, count-if, joined}
+use Rattle.geometry.specs.Segment.{Segment, residue}
+use Rattle.geometry.specs.Segment as segment
+use Rattle.parabola.specs.Parabola.{Parabola, triangle, value-at, slope-at, second-difference, is-hard, hard-list, Hard, spread, covering, continued, part-start, part-count, part, In-range, Divisible, line}
+
+-- ---- values
+
+-- V(x) is c0 + c1·x + s·x(x-1)/2 taken modulo M, and the slope at x is c1 + s·x taken modulo M; V(x + 1) is V(x) and the slope at x, modulo M, and
+-- the slope changes by s, modulo M
+pub record Values-correct (p : Parabola) : Type 0 where
+  pub value : (x : ℕ) → value-at p x ≡ (pos (p .value) +ℤ pos (p .slope) *ℤ pos x +ℤ p .curve *ℤ pos (x * (x - 1) / 2)) modulo p .unit
+  pub triangle-is : (x : ℕ) → triangle x ≡ x * (x - 1) / 2
+  pub halved : (x : ℕ) → x * (x - 1) / 2 + x * (x - 1) / 2 ≡ x * (x - 1)
+  pub slope : (x : ℕ) → slope-at p x ≡ (pos (p .slope) +ℤ p .curve *ℤ pos x) modulo p .unit
+  pub second : second-difference p ≡ p .curve modulo p .unit
+  pub in-range : (x : ℕ) → value-at p x < p .unit
+  pub slope-in-range : (x : ℕ) → slope-at p x < p .unit
+  pub second-in-range : second-difference p < p .unit
+  pub first : p .value < p .unit → value-at p 0 ≡ p .value
+  pub slope-first : p .slope < p .unit → slope-at p 0 ≡ p .slope
+  pub differences : (x : ℕ) → value-at p (suc x) ≡ (value-at p x + slope-at p x) % p .unit
+  pub slope-differences : (x : ℕ) → slope-at p (suc x) ≡ (slope-at p x + second-difference p) % p .unit
+  -- from an argument h on the parabola goes on
+  pub continues : (h n y : ℕ) → value-at (continued p h n) y ≡ value-at p (h + y)
+  pub slope-continues : (h n y : ℕ) → slope-at (continued p h n) y ≡ slope-at p (h + y)
+
+-- ---- the covering segment
+
+-- the covering segment has the parabola's unit and count, the step (-c1) mod M, the start (c0 + D) mod M or, for a negative curve, c0, and the
+-- smaller of M and w + D for its window. It lies above the values exactly by what the curve may still add to them, D at 0 and nothing at N, or by what
+-- it has taken from them, nothing at 0 and D at N. Wherever a value below N is less than the window, the residue is less than the covering window
+pub record Covering-correct (p : Parabola) : Type 0 where
+  pub spread-is : spread p + spread p ≡ natAbs (p .curve) * (p .count * (p .count - 1))
+  pub unit : covering p .unit ≡ p .unit
+  pub step : covering p .step ≡ (p .unit - p .slope) % p .unit
+  pub start-rising : (n : ℕ) → p .curve ≡ pos n → covering p .start ≡ (p .value + spread p) % p .unit
+  pub start-falling : (n : ℕ) → p .curve ≡ negsuc n → covering p .start ≡ p .value
+  pub count : covering p .count ≡ p .count
+  pub window : covering p .window ≡ min (p .unit) (p .window + spread p)
+  pub rising : (n : ℕ) → p .curve ≡ pos n → (x : ℕ) → x ≤ p .count
+      → residue (covering p) x ≡ (value-at p x + (spread p - n * triangle x)) % p .unit
+  pub falling : (n : ℕ) → p .curve ≡ negsuc n → (x : ℕ) → residue (covering p) x ≡ (value-at p x + suc n * triangle x) % p .unit
+  pub covers : (x : ℕ) → x < p .count → value-at p x < p .window → residue (covering p) x < covering p .window
+
+-- ---- the parts
+
+-- parts cover the arguments from 0 to N - 1 once each, in order; a part's value at y is the parabola's at the part's beginning and y more
+pub record Parts-correct (p : Parabola) : Type 0 where
+  pub first : part-start p 0 ≡ 0
+  pub next : (i : ℕ) → part-start p (suc i) ≡ part-start p i + part-count p i
+  pub last : part-start p 8 ≡ p .count
+  pub once : (x : ℕ) → x < p .count → (i : ℕ) × (i < 8) × (part-start p i ≤ x) × (x < part-start p i + part-count p i)
+      × ((j : ℕ) → j < 8 → part-start p j ≤ x → x < part-start p j + part-count p j → j ≡ i)
+  pub equal : (i : ℕ) → part-count p i * 8 ≡ p .count
+  pub length-of : (i : ℕ) → part p i .count ≡ part-count p i
+  pub begins : (i : ℕ) → (part p i .value ≡ value-at p (part-start p i)) × (part p i .slope ≡ slope-at p (part-start p i))
+  pub same : (i : ℕ) → (part p i .unit ≡ p .unit) × (part p i .curve ≡ p .curve) × (part p i .window ≡ p .window)
+  pub in-range-of : (i : ℕ) → In-range (part p i)
+  pub continues : (i y : ℕ) → value-at (part p i) y ≡ value-at p (part-start p i + y)
+  pub slope : (i y : ℕ) → slope-at (part p i) y ≡ slope-at p (part-start p i + y)
+  -- what the parts list, as arguments of the parabola, one part after another, is what the parabola lists
+  pub lists : joined (λ i. map (λ (y : ℕ). part-start p i + y) (hard-list (part p i))) 8 0 ≡ hard-list p
+
+-- ---- lines
+
+-- the line of a segment has its residues for values, and so its hard arguments
+pub record Line-correct (s : Segment) : Type 0 where
+  pub value : (x : ℕ) → value-at (line s) x ≡ residue s x
+  pub lists : hard-list (line s) ≡ segment.hard-list s
+
+-- ---- all of it
+
+pub record Promised : Type 0 where
+  pub values : (p : Parabola) → 0 < p .unit → Values-correct p
+  pub hard-lists : (p : Parabola) → p .count ≤ 1048576 → Enumerates (Hard p) (count-if (is-hard p) (p .count) 0) (hard-list p)
+  pub coverings : (p : Parabola) → 0 < p .unit → p .slope < p .unit → Covering-correct p
+  pub parts : (p : Parabola) → Divisible p → Parts-correct p
+  pub lines : (s : Segment) → s .step < s .unit → Line-correct s

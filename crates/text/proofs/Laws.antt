@@ -1,0 +1,2 @@
+-- The laws of this crate that others may use beside its promise. Assumes nothing.
+pub use Rattle.text.proofs.Decimals.{one-digit}

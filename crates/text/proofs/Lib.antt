@@ -1,0 +1,9 @@
+mod Decimals
+mod Names
+mod Steps
+mod Signs
+mod Numbers
+mod Lines
+mod Digits
+pub mod Laws
+pub mod Promises
