@@ -1,5 +1,6 @@
-//! The proved searches written in Rust, function by function as crates/segment/src has them, and unverified: what the same algorithm
-//! takes without its proofs.
+//! The proved searches written in Rust and unverified: what the same algorithm takes without its proofs. The functions are those of
+//! crates/segment/src, under older names and in an older shape. Written in the present one, the Rust compiler makes them some 5% slower, so
+//! this is the stricter comparison.
 
 #[derive(Clone, Copy)]
 struct State {
@@ -21,7 +22,7 @@ struct Cuts {
 }
 
 #[derive(Clone, Copy)]
-struct Nearest {
+struct Moved {
     argument: u64,
     distance: u64,
 }
@@ -44,49 +45,52 @@ fn first(modulus: u64, step: u64, start: u64, count: u64) -> State {
 #[inline(always)]
 fn regular_even(state: State, count: u64) -> State {
     let row = divide(state);
-    let point = advance_all_left(state);
     if row.rest == 0 {
-        let all = Cuts { number: row.number - 1, rest: state.short };
-        return next_row(state, all, point, true);
+        return next_row(state, cut(state, row.number - 1), carry_all_left(state), true);
     }
-    next_row(state, row, point, reaches(state, row, count))
+    next_row(state, row, carry_all_left(state), reaches(state, row, count))
 }
 
 #[inline(always)]
 fn regular_odd(state: State, count: u64) -> State {
     let row = divide(state);
     if row.rest == 0 {
-        let all = Cuts { number: row.number - 1, rest: state.short };
-        return next_row(state, all, advance_right(state, all), true);
+        let all = cut(state, row.number - 1);
+        return next_row(state, all, carry_right(state, all), true);
     }
-    let point = advance_right(state, row);
-    next_row(state, row, point, reaches(state, row, count))
+    next_row(state, row, carry_right(state, row), reaches(state, row, count))
 }
 
 #[inline(always)]
 fn fine_even(state: State, count: u64) -> State {
     let row = divide(state);
-    let point = advance_all_left(state);
+    let moved = carry_all_left(state);
     if ends(state, row, count) {
-        let cuts = last_cuts(state, row, count);
-        return finish(state, cuts, advance_left(state, cuts), cuts.number == row.number);
+        let cuts = cut(state, cuts_to(state, row, count));
+        return end(state, cuts, carry_left(state, cuts), cuts.number == row.number);
     }
-    next_row(state, row, point, false)
+    next_row(state, row, moved, false)
 }
 
 #[inline(always)]
 fn fine_odd(state: State, count: u64) -> State {
     let row = divide(state);
+    let moved = carry_right(state, row);
     if ends(state, row, count) {
-        let cuts = last_cuts(state, row, count);
-        return finish(state, cuts, advance_right(state, cuts), cuts.number == row.number);
+        let cuts = cut(state, cuts_to(state, row, count));
+        return end(state, cuts, carry_right(state, cuts), cuts.number == row.number);
     }
-    next_row(state, row, advance_right(state, row), false)
+    next_row(state, row, moved, false)
 }
 
 #[inline(always)]
 fn divide(state: State) -> Cuts {
     Cuts { number: state.long / state.short, rest: state.long % state.short }
+}
+
+#[inline(always)]
+fn cut(state: State, number: u64) -> Cuts {
+    Cuts { number, rest: state.long - number * state.short }
 }
 
 #[inline(always)]
@@ -96,67 +100,58 @@ fn ends(state: State, row: Cuts, count: u64) -> bool {
 
 #[inline(always)]
 fn reaches(state: State, row: Cuts, count: u64) -> bool {
-    count - state.longs <= state.shorts + row.number * state.longs
+    count <= state.shorts + row.number * state.longs + state.longs
 }
 
 #[inline(always)]
-fn last_cuts(state: State, row: Cuts, count: u64) -> Cuts {
-    let all = row.number - (row.rest == 0) as u64;
-    let number = ((count - state.shorts - 1) / state.longs).min(all);
-    Cuts { number, rest: state.long - number * state.short }
+fn cuts_to(state: State, row: Cuts, count: u64) -> u64 {
+    all_cuts(row).min((count - state.shorts - 1) / state.longs)
 }
 
 #[inline(always)]
-fn advance_left(state: State, cuts: Cuts) -> Nearest {
-    let moves = cuts.number.min(state.distance / state.short);
-    Nearest { argument: state.argument + moves * state.longs, distance: state.distance - moves * state.short }
-}
-
-#[inline(always)]
-fn advance_all_left(state: State) -> Nearest {
-    Nearest {
-        argument: state.argument + state.distance / state.short * state.longs,
-        distance: state.distance % state.short,
+fn all_cuts(row: Cuts) -> u64 {
+    if row.rest == 0 {
+        row.number - 1
+    } else {
+        row.number
     }
 }
 
 #[inline(always)]
-fn advance_right(state: State, cuts: Cuts) -> Nearest {
-    let advanced = highest_cut(state, cuts);
+fn carry_all_left(state: State) -> Moved {
+    Moved { argument: state.argument + state.distance / state.short * state.longs, distance: state.distance % state.short }
+}
+
+#[inline(always)]
+fn carry_left(state: State, cuts: Cuts) -> Moved {
+    let moves = cuts.number.min(state.distance / state.short);
+    Moved { argument: state.argument + moves * state.longs, distance: state.distance - moves * state.short }
+}
+
+#[inline(always)]
+fn carry_right(state: State, cuts: Cuts) -> Moved {
+    let over = state.distance.saturating_sub(cuts.rest);
+    let argument = state.argument + (state.shorts + cuts.number * state.longs - over / state.short * state.longs);
+    let distance = over % state.short;
     // In two tests: of one with both conditions the compiler makes a branch.
     if state.longs <= state.argument {
-        return unmoved(state);
+        return Moved { argument: state.argument, distance: state.distance };
     }
     if state.distance < cuts.rest {
-        return unmoved(state);
+        return Moved { argument: state.argument, distance: state.distance };
     }
-    advanced
+    Moved { argument, distance }
 }
 
 #[inline(always)]
-fn highest_cut(state: State, cuts: Cuts) -> Nearest {
-    let over = state.distance.saturating_sub(cuts.rest);
-    let back = over / state.short;
-    Nearest {
-        argument: state.argument + (state.shorts + cuts.number * state.longs - back * state.longs),
-        distance: over % state.short,
-    }
-}
-
-#[inline(always)]
-fn unmoved(state: State) -> Nearest {
-    Nearest { argument: state.argument, distance: state.distance }
-}
-
-#[inline(always)]
-fn next_row(state: State, cuts: Cuts, point: Nearest, done: bool) -> State {
+fn next_row(state: State, cuts: Cuts, moved: Moved, done: bool) -> State {
     State {
         long: state.short,
         short: cuts.rest,
         longs: state.shorts + cuts.number * state.longs,
         shorts: state.longs,
-        argument: point.argument,
-        distance: point.distance,
+        argument: moved.argument,
+        distance: moved.distance,
         part: 0,
         index: state.index + 1,
         done,
@@ -164,17 +159,27 @@ fn next_row(state: State, cuts: Cuts, point: Nearest, done: bool) -> State {
 }
 
 #[inline(always)]
-fn finish(state: State, cuts: Cuts, point: Nearest, whole: bool) -> State {
+fn end(state: State, cuts: Cuts, moved: Moved, whole: bool) -> State {
+    let shorts = state.shorts + cuts.number * state.longs;
     State {
-        long: cuts.rest,
-        short: state.short,
-        longs: state.longs,
-        shorts: state.shorts + cuts.number * state.longs,
-        argument: point.argument,
-        distance: point.distance,
-        part: cuts.number * !whole as u64,
-        index: state.index + whole as u32,
+        long: pick(whole, state.short, cuts.rest),
+        short: pick(whole, cuts.rest, state.short),
+        longs: pick(whole, shorts, state.longs),
+        shorts: pick(whole, state.longs, shorts),
+        argument: moved.argument,
+        distance: moved.distance,
+        part: pick(whole, 0, cuts.number),
+        index: state.index + pick(whole, 1, 0) as u32,
         done: true,
+    }
+}
+
+#[inline(always)]
+fn pick(first: bool, a: u64, b: u64) -> u64 {
+    if first {
+        a
+    } else {
+        b
     }
 }
 
