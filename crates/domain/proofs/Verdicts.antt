@@ -14,6 +14,7 @@ use Rattle.segment.specs.Search.{verdict}
 use Rattle.segment.specs.Promise.{Verdicts-correct}
 use Rattle.segment.specs.declared.Verdict.{Verdict}
 use Rattle.segment.specs.declared.Verdict.the-variants.{Clear, Possible}
+use Rattle.segment.proofs.Laws.{apart}
 use Rattle.segment.proofs.Promises as segment
 use Rattle.parabola.specs.Parabola.{Parabola, In-range, Divisible, value-at, Hard, hard-list, covering, part-start, part}
 use Rattle.parabola.specs.Promise.{Parts-correct}
@@ -75,9 +76,6 @@ mark-possible : (v : Verdict) → (mark-of v ≡ 2) ↔ (v ≡ Possible)
 unfolding mark-of
 mark-possible Clear = (λ e. absurd (omega (arith, e)), λ e. ap mark-of e)
 mark-possible Possible = (λ e. refl, λ e. refl)
-
-apart : Clear ≡ Possible → ⊥
-apart e = let z : _≡_ {A = ℕ} 0 1 = cc in omega arith
 
 -- a verdict that is not clear is possible
 otherwise : (v : Verdict) → (v ≡ Clear → ⊥) → v ≡ Possible

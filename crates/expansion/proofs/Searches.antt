@@ -4,13 +4,13 @@ use mathlib.Core.Path.{_≡_, refl, sym, _∙_, ap}
 use mathlib.Core.List.{List, [], _∷_, List·Memᴰ, List·Memᴰ·not-nil, List·Memᴰ·cases-cons, List·Memᴰ·eq-of-singleton}
 use mathlib.Core.List.List·Memᴰ.{List·Memᴰ·head, List·Memᴰ·tail}
 use mathlib.Core.Logic.{⊎-elim, by-cases}
-use Prim.Native.Nat.{ℕ, zero, suc, _+_, _-_, _≤_, _<_}
+use Prim.Native.Nat.{ℕ, suc, _+_, _-_, _≤_, _<_}
 use native.Mathlib.Nat.{mod-lt, mul-le-mul-right, not-suc-le-zero, lt-of-not-le}
 use native.Mathlib.Decide.{decLt, decLe}
 use native.Mathlib.Omega.{arith}
 use lib.ListN.{length, getD}
 use Rattle.numbers.proofs.Fibonacci.{fib, fib-zero, fib-one, fib-next, fib-31}
-use Rattle.numbers.proofs.Lists.{Ascending-from}
+use Rattle.numbers.proofs.Lists.{Ascending-from, member-at, member-place}
 use Rattle.numbers.proofs.Lists.Ascending-from.{ascending-cons}
 use Rattle.numbers.proofs.Remainders.{quotient-positive}
 use Rattle.expansion.specs.Rows.{Row, period, last}
@@ -34,17 +34,6 @@ regular-part : {t u p q : ℕ} {rs : List Row} → Rows t u p q rs → (i : ℕ)
 regular-part (end {t} {p} {q}) i c m = ap (λ (x : Configuration). x .part) (List·Memᴰ·eq-of-singleton (rw regular-end at m))
 regular-part (next h r) i c m =
     ⊎-elim (λ e. ap (λ (x : Configuration). x .part) e) (λ o. regular-part r (suc i) c o) (List·Memᴰ·cases-cons (rw regular-next at m))
-
--- a configuration stands at each place, and each member at some place
-member-at : (cs : List Configuration) (i : ℕ) → i < length cs → List·Memᴰ (getD cs i none) cs
-member-at [] i l = absurd (not-suc-le-zero l)
-member-at (c ∷ cs) zero l = List·Memᴰ·head refl
-member-at (c ∷ cs) (suc i) l = List·Memᴰ·tail (member-at cs i (omega arith))
-
-place-of : (c : Configuration) (cs : List Configuration) → List·Memᴰ c cs → (i : ℕ) × (i < length cs) × (getD cs i none ≡ c)
-place-of c [] m = absurd (List·Memᴰ·not-nil m)
-place-of c (d ∷ cs) m =
-    ⊎-elim (λ e. (0, omega arith, sym e)) (λ t. let p = place-of c cs t in (suc (p .0), omega (arith, p .1), p .2)) (List·Memᴰ·cases-cons m)
 
 -- each count is at least the bound
 member-above : {b : ℕ} (cs : List Configuration) → Ascending-from b (counts cs) → (c : Configuration) → List·Memᴰ c cs → b ≤ c .count
@@ -70,7 +59,7 @@ in-order n P (c ∷ []) (ascending-cons h a) l e =
 in-order n P (c ∷ d ∷ cs) (ascending-cons h a) l e =
     let i : length (c ∷ d ∷ cs) - 1 ≡ suc (length (d ∷ cs) - 1) = omega arith in
     let f : last-of (d ∷ cs) .count ≡ P = rw i at e in
-    let most = member-above (d ∷ cs) a (last-of (d ∷ cs)) (member-at (d ∷ cs) (length (d ∷ cs) - 1) (omega arith)) in
+    let most = member-above (d ∷ cs) a (last-of (d ∷ cs)) (member-at none (d ∷ cs) (length (d ∷ cs) - 1) (omega arith)) in
     by-cases (decLe n (c .count))
     (λ k. rw (reached-here n c (d ∷ cs) k)
     (record {
@@ -134,7 +123,7 @@ module _ (M a : ℕ) (small : a < M) where
   fine-covers fine c m = (c, m, refl)
   fine-covers regular c m =
       let r = regular-correct M a small in
-      let p = place-of c (all-regular M a) m in
+      let p = member-place none c (all-regular M a) m in
       by-cases (decLt (p .0) (last M a)) (λ h. (getD (all-regular M a) (p .0) none, r .among-fine (p .0) h, count-of (p .2)))
       (λ h. let i : p .0 ≡ length (all-regular M a) - 1 = omega (arith, p .1, r .many) in
       let most = reached-correct fine (suc (period M a)) in

@@ -1,7 +1,9 @@
--- Lists that ascend strictly, number by number from a bound on; lists without entries; an array that begins with a list and has zeros after
+-- Lists that ascend strictly, number by number from a bound on; members and their places; lists without entries; an array that begins with a list and has zeros after
 -- it. Assumes nothing.
 use mathlib.Core.Path.{_≡_, refl, sym, _∙_, ap}
-use mathlib.Core.List.{List, [], _∷_, _++_}
+use mathlib.Core.List.{List, [], _∷_, _++_, List·Memᴰ, List·Memᴰ·not-nil, List·Memᴰ·cases-cons}
+use mathlib.Core.List.List·Memᴰ.{List·Memᴰ·head, List·Memᴰ·tail}
+use mathlib.Core.Logic.{⊎-elim}
 use Prim.Native.Nat.{ℕ, zero, suc, _+_, _-_, _≤_, _<_}
 use native.Mathlib.Nat.{suc-sub-suc, sub-zero, zero-sub, not-suc-le-zero}
 use native.Mathlib.Omega.{arith}
@@ -24,6 +26,18 @@ ascending ascending-nil i j h l = absurd (not-suc-le-zero l)
 ascending (ascending-cons b c) i zero h l = absurd (not-suc-le-zero h)
 ascending (ascending-cons b c) zero (suc j) h l = at-least c j (omega arith)
 ascending (ascending-cons b c) (suc i) (suc j) h l = ascending c i j (omega arith) (omega arith)
+
+-- what stands at a place of a list is one of its members, and every member stands at a place; d is read beyond the list
+module _ {A : Type 0} (d : A) where
+  pub member-at : (xs : List A) (i : ℕ) → i < length xs → List·Memᴰ (getD xs i d) xs
+  member-at [] i l = absurd (not-suc-le-zero l)
+  member-at (x ∷ xs) zero l = List·Memᴰ·head refl
+  member-at (x ∷ xs) (suc i) l = List·Memᴰ·tail (member-at xs i (omega arith))
+
+  pub member-place : (x : A) (xs : List A) → List·Memᴰ x xs → (i : ℕ) × (i < length xs) × (getD xs i d ≡ x)
+  member-place x [] m = absurd (List·Memᴰ·not-nil m)
+  member-place x (y ∷ xs) m =
+      ⊎-elim (λ e. (0, omega arith, sym e)) (λ t. let p = member-place x xs t in (suc (p .0), omega (arith, p .1), p .2)) (List·Memᴰ·cases-cons m)
 
 -- a list without entries
 pub no-entries : (xs : List ℕ) → length xs ≤ 0 → xs ≡ []

@@ -1,15 +1,15 @@
 -- In a list that ascends strictly the entries below a bound stand before the others: so the range has the entries between its bounds, and no other.
 -- Assumes nothing.
 use mathlib.Core.Path.{_≡_, refl, sym, _∙_, ap}
-use mathlib.Core.List.{List, [], _∷_, List·Memᴰ, List·Memᴰ·not-nil, List·Memᴰ·cases-cons, Memᴰ·cast}
-use mathlib.Core.List.List·Memᴰ.{List·Memᴰ·head, List·Memᴰ·tail}
-use mathlib.Core.Logic.{_↔_, ⊎-elim}
+use mathlib.Core.List.{List, [], _∷_, List·Memᴰ, Memᴰ·cast}
+use mathlib.Core.Logic.{_↔_}
 use Prim.Native.Nat.{ℕ, zero, suc, _+_, _-_, _≤_, _<_}
 use native.Mathlib.Nat.{not-suc-le-zero, lt-of-not-le, le-of-suc-le-suc}
 use native.Mathlib.Omega.{arith}
 use lib.ListN.{length, getD, drop, length-drop}
 use lib.Seq.{getD-take, getD-drop, length-take-le}
 use Rattle.numbers.specs.Lists.{Ascending}
+use Rattle.numbers.proofs.Lists.{member-at, member-place}
 use Rattle.range.specs.Range.{below, start-of, count-of, range-of}
 use Rattle.range.specs.Promise.{Handed-back, Range-correct}
 use Rattle.range.proofs.Counting.{below-counted, below-passed, below-next}
@@ -56,16 +56,6 @@ handed-back lo hi xs =
 
 -- ---- members stand at places
 
-member-at : (xs : List ℕ) (i : ℕ) → i < length xs → List·Memᴰ (getD xs i 0) xs
-member-at [] i l = absurd (not-suc-le-zero l)
-member-at (x ∷ xs) zero l = List·Memᴰ·head refl
-member-at (x ∷ xs) (suc i) l = List·Memᴰ·tail (member-at xs i (omega arith))
-
-place-of : (x : ℕ) (xs : List ℕ) → List·Memᴰ x xs → (i : ℕ) × (i < length xs) × (getD xs i 0 ≡ x)
-place-of x [] m = absurd (List·Memᴰ·not-nil m)
-place-of x (y ∷ xs) m =
-    ⊎-elim (λ e. (0, omega arith, sym e)) (λ t. let p = place-of x xs t in (suc (p .0), omega (arith, p .1), p .2)) (List·Memᴰ·cases-cons m)
-
 -- ---- the range of a list that ascends strictly
 
 module _ {lo hi : ℕ} {xs : List ℕ} (r : Between lo hi xs) (a : Ascending xs) where
@@ -80,21 +70,21 @@ module _ {lo hi : ℕ} {xs : List ℕ} (r : Between lo hi xs) (a : Ascending xs)
 
       of-range : List·Memᴰ x (range-of lo hi xs) → List·Memᴰ x xs × (lo ≤ x) × (x < hi)
       of-range m =
-          let p = place-of x (range-of lo hi xs) m in
+          let p = member-place 0 x (range-of lo hi xs) m in
           let l : p .0 < count-of lo hi xs = omega (arith, p .1, back .many) in
           let e = sym (back .in-order (p .0) l) ∙ p .2 in
           let b = inside (start-of lo hi xs + p .0) (omega arith) (omega arith) in
-          (Memᴰ·cast (sym e) (member-at xs (start-of lo hi xs + p .0) (omega (arith, r))), omega arith, omega arith)
+          (Memᴰ·cast (sym e) (member-at 0 xs (start-of lo hi xs + p .0) (omega (arith, r))), omega arith, omega arith)
 
       in-range : List·Memᴰ x xs × (lo ≤ x) × (x < hi) → List·Memᴰ x (range-of lo hi xs)
       in-range m =
-          let p = place-of x xs (m .0) in
+          let p = member-place 0 x xs (m .0) in
           let late = few-below lo xs a (p .0) (λ l. omega (arith, m .1, p .2)) in
           let early = many-below hi xs a (p .0) (p .1) (omega (arith, m .2, p .2)) in
           let i = p .0 - start-of lo hi xs in
           let l : i < count-of lo hi xs = omega (arith, r) in
           let e : start-of lo hi xs + i ≡ p .0 = omega (arith, r) in
-          Memᴰ·cast (sym (back .in-order i l ∙ ap (λ (j : ℕ). getD xs j 0) e ∙ p .2)) (member-at (range-of lo hi xs) i (omega (arith, back .many)))
+          Memᴰ·cast (sym (back .in-order i l ∙ ap (λ (j : ℕ). getD xs j 0) e ∙ p .2)) (member-at 0 (range-of lo hi xs) i (omega (arith, back .many)))
 
   pub range-correct : Range-correct lo hi xs
   range-correct =

@@ -5,4 +5,5 @@ mod Invariant
 mod Steps
 mod Answers
 mod Showing
+pub mod Laws
 pub mod Promises

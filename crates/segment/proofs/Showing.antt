@@ -58,7 +58,7 @@ module _ (k : Search) {s : Segment} (a : Searchable s) where
 
 -- ---- verdicts
 
-apart : Clear ≡ Possible → ⊥
+pub apart : Clear ≡ Possible → ⊥
 apart e = let z : _≡_ {A = ℕ} 0 1 = cc in omega arith
 
 pub verdict-iff : (d w : ℕ) → ((verdict-at d w ≡ Clear) ↔ (w ≤ d)) × ((verdict-at d w ≡ Possible) ↔ (d < w))
