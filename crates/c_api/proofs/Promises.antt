@@ -1,9 +1,11 @@
 -- What is promised of the C functions. Assumes nothing.
 use mathlib.Core.Path.{_≡_, refl, sym, _∙_}
 use mathlib.Core.List.{List}
+use mathlib.Core.Logic.{_↔_}
 use Prim.Native.Nat.{ℕ, zero, suc}
 use native.Mathlib.Omega.{arith}
 use lib.ListN.{length}
+use Rattle.numbers.specs.Checklist.{unless-refused}
 use Rattle.numbers.proofs.Equivalences.{through}
 use Rattle.numbers.proofs.Checklists.{accepts, refuses, unrefused-new, refused-old}
 use Rattle.expansion.specs.Answer.{answer}
@@ -22,16 +24,15 @@ use Rattle.c_api.specs.Promise.{Promised}
 
 -- ---- the expansion
 
--- equal tables have equal columns
-columns : {s t : Table} → s ≡ t
-    → (s .remainders ≡ t .remainders) × (s .denominators ≡ t .denominators) × (s .quotients ≡ t .quotients) × (s .last ≡ t .last)
-columns e = (cc, cc, cc, cc)
-
-expanded : (e : Answer) {n : ℕ} {old new : Table} → e .refusal ≡ 0 → Delivered e n old new → (n ≡ 0) × (new ≡ e .table)
-expanded e z d = (d .returned ∙ z, d .left ∙ unrefused-new _ _ z)
-
-not-expanded : (e : Answer) {n k : ℕ} {old new : Table} → e .refusal ≡ suc k → Delivered e n old new → (n ≡ suc k) × (new ≡ old)
-not-expanded e z d = (d .returned ∙ z, d .left ∙ refused-old _ _ _ (λ y. omega (arith, y, z)))
+-- what is handed over is the number, and the table that an answer has or the one that was there, column by column
+delivered : (e : Answer) {n k : ℕ} {old new table : Table} → e .refusal ≡ k → unless-refused (e .refusal) (e .table) old ≡ table
+    → Delivered e n old new
+    ↔ ((n ≡ k) × (new .remainders ≡ table .remainders) × (new .denominators ≡ table .denominators) × (new .quotients ≡ table .quotients) × (new .last ≡ table .last))
+delivered e {n} {k} {old} {new} {table} z t = (
+  λ d. let same : new ≡ table = d .left ∙ t in (d .returned ∙ z, cc, cc, cc, cc),
+  λ h. let same : new ≡ table = λ j. record { remainders = h .1 j; denominators = h .2 j; quotients = h .3 j; last = h .4 j } in
+      record { returned = h .0 ∙ sym z; left = same ∙ sym t },
+)
 
 -- ---- what a number makes of an answer
 
@@ -92,10 +93,8 @@ pub promised : Promised
 unfolding verdict-number regular-memory fine-memory scan-memory domain-memory regular-answer fine-answer scan-answer domain-answer segments.refusal scan-number domain-number
 promised =
     record {
-      expand-numbers = λ M a n m m′ us qs ks us′ qs′ ks′ z d.
-          let r = expanded (answer M a) z d in let c = columns (r .1) in (r .0, c .0, c .1, c .2, c .3);
-      expand-unchanged = λ M a n k m m′ us qs ks us′ qs′ ks′ z d.
-          let r = not-expanded (answer M a) z d in let c = columns (r .1) in (r .0, c .0, c .1, c .2, c .3);
+      expand-numbers = λ M a n m m′ us qs ks us′ qs′ ks′ z. delivered (answer M a) z (unrefused-new _ _ z);
+      expand-unchanged = λ M a n k m m′ us qs ks us′ qs′ ks′ z. delivered (answer M a) z (refused-old _ _ _ (λ y. omega (arith, y, z)));
       clear-is-1 = refl;
       possible-is-0 = refl;
       regular-accepted = λ M a b N w. through (regular-number (segment M a b N w) _) (accepts (segments.checks (segment M a b N w)) (omega arith));

@@ -30,9 +30,9 @@ use Rattle.c_api.specs.Memory.{memory, Delivered, verdict-number, regula
 pub record Promised : Type 0 where
   pub expand-numbers : (M a n m m′ : ℕ) (us qs ks us′ qs′ ks′ : List ℕ) → answer M a .refusal ≡ 0
       → Delivered (answer M a) n (memory us qs ks m) (memory us′ qs′ ks′ m′)
-      → (n ≡ 0) × (us′ ≡ answer M a .table .remainders) × (qs′ ≡ answer M a .table .denominators) × (ks′ ≡ answer M a .table .quotients) × (m′ ≡ answer M a .table .last)
+      ↔ ((n ≡ 0) × (us′ ≡ answer M a .table .remainders) × (qs′ ≡ answer M a .table .denominators) × (ks′ ≡ answer M a .table .quotients) × (m′ ≡ answer M a .table .last))
   pub expand-unchanged : (M a n k m m′ : ℕ) (us qs ks us′ qs′ ks′ : List ℕ) → answer M a .refusal ≡ suc k
-      → Delivered (answer M a) n (memory us qs ks m) (memory us′ qs′ ks′ m′) → (n ≡ suc k) × (us′ ≡ us) × (qs′ ≡ qs) × (ks′ ≡ ks) × (m′ ≡ m)
+      → Delivered (answer M a) n (memory us qs ks m) (memory us′ qs′ ks′ m′) ↔ ((n ≡ suc k) × (us′ ≡ us) × (qs′ ≡ qs) × (ks′ ≡ ks) × (m′ ≡ m))
   pub clear-is-1 : verdict-number Clear ≡ 1
   pub possible-is-0 : verdict-number Possible ≡ 0
   pub regular-accepted : (M a b N w : ℕ) → (regular-refusal (regular-answer M a b N w) ≡ 0) ↔ All-hold (segment-promise.Asked (segment M a b N w))

@@ -1,16 +1,21 @@
--- Hard in the call's own numbers is hard by the definition of values. Assumes nothing.
+-- Hard in a call's own numbers is hard by the definition of values, or of residues. Assumes nothing.
 use mathlib.Core.Path.{_≡_, refl, ap}
 use mathlib.Core.Logic.{_↔_}
-use Prim.Native.Nat.{ℕ, _+_, _-_, _*_, _<_}
+use Prim.Native.Nat.{ℕ, _+_, _-_, _*_, _/_, _<_}
+use native.Mathlib.Nat.{div-add-mod'}
 use native.Mathlib.Omega.{arith}
 use lib.IntN.{ℤ, pos, subℕ, _+ℤ_, _*ℤ_}
-use Rattle.numbers.proofs.Congruences.{Congruent}
+use Rattle.numbers.proofs.Congruences.{Congruent, flip, chain, cancel, same}
 use Rattle.numbers.proofs.Integers.{gain, loss, Difference, number, difference, sum, product, scaled, balanced, same-integer}
+use Rattle.geometry.specs.Segment.{Segment, residue}
+use Rattle.geometry.specs.Segment as geometry
+use Rattle.geometry.proofs.Laws.{residue-lt, residue-congruent}
+use Rattle.geometry.proofs.Promises as geometry-promises
 use Rattle.parabola.specs.Parabola.{Hard, triangle, value-at}
 use Rattle.parabola.proofs.Laws.{triangle-twice, value-congruent, value-is}
 use Rattle.parabola.proofs.Promises.{promised}
 use Rattle.domain.specs.Domain.{parabola-of}
-use Rattle.domain.specs.Promise.{Hard-in-numbers}
+use Rattle.domain.specs.Promise.{Hard-in-numbers, Hard-in-segment}
 use Rattle.domain.specs.declared.Domain.{Domain}
 
 module _ (d : Domain) (x : ℕ) where
@@ -42,3 +47,21 @@ module _ (d : Domain) (x : ℕ) where
           let c : Congruent (d .modulus) (v + loss (d .curve) * triangle x) (d .value + d .slope * x + gain (d .curve) * triangle x)
           = record { over = loss k; under = gain k; equal = omega (arith, e, twice (gain (d .curve)), twice (loss (d .curve))) } in
           (h .0, omega (arith, h .1 .2, value-is (parabola-of d) positive x (h .1 .1) c))
+
+-- of a segment
+module _ (s : Segment) (x : ℕ) where
+  pub hard-in-segment : s .step < s .unit → s .start < s .unit → geometry.Hard s x ↔ Hard-in-segment (s .unit) (s .step) (s .start) (s .count) (s .window) x
+  hard-in-segment low start = (to, from)
+    where
+      to : geometry.Hard s x → Hard-in-segment (s .unit) (s .step) (s .start) (s .count) (s .window) x
+      to h =
+          let r = geometry-promises.promised .residues s low start in
+          let n = residue s x + s .step * x in
+          (h .0, (residue s x, r .in-range x, h .1, (n / s .unit, omega (arith, r .congruent x, div-add-mod' n (s .unit)))))
+
+      from : Hard-in-segment (s .unit) (s .step) (s .start) (s .count) (s .window) x → geometry.Hard s x
+      from h =
+          let r = h .1 in
+          let c : Congruent (s .unit) (r .0 + s .step * x) (s .start) = record { over = 0; under = r .3 .0; equal = omega (arith, r .3 .1) } in
+          let e = same (r .1) (residue-lt s x (omega arith)) (cancel (s .step * x) (chain c (flip (residue-congruent s x (omega arith))))) in
+          (h .0, omega (arith, e, r .2))

@@ -2,39 +2,65 @@
 use mathlib.Core.Path.{_≡_, refl, sym, _∙_, ap, ap₂, subst}
 use mathlib.Core.List.{List, []}
 use mathlib.Core.Logic.{_↔_}
-use Prim.Native.Nat.{ℕ, zero, suc, _≤_}
+use Prim.Native.Nat.{ℕ, zero, suc, _≤_, _<_}
 use native.Mathlib.Omega.{arith}
-use lib.ListN.{length, take}
+use lib.Dec.{ltb}
+use lib.ListN.{length, getD, take}
 use Rattle.numbers.specs.Checklist.{unless-refused}
-use Rattle.numbers.specs.Lists.{Enumerates, overwrite-front, Buffer-correct}
+use Rattle.numbers.specs.Lists.{count-if, overwrite-front}
+use Rattle.numbers.specs.Promise.{Enumerates, Buffer-correct}
 use Rattle.numbers.proofs.Checklists.{gives, unrefused-new, refused-old}
 use Rattle.numbers.proofs.Buffers.{front-correct, front-taken}
 use Rattle.expansion.specs.Reached.Search.{regular}
-use Rattle.geometry.specs.Segment.{Segment}
+use Rattle.geometry.specs.Segment.{Segment, residue}
 use Rattle.geometry.specs.Segment as geometry
 use Rattle.geometry.proofs.Promises as geometry-promises
 use Rattle.segment.specs.Accepted as segment
 use Rattle.segment.specs.Search.{verdict}
 use Rattle.segment.specs.declared.Verdict.{Verdict}
 use Rattle.segment.specs.declared.Verdict.the-variants.{Clear}
-use Rattle.parabola.specs.Parabola.{Parabola, triangle, value-at, hard-list, Hard, covering}
+use Rattle.parabola.specs.Parabola.{Parabola, In-range, triangle, value-at, slope-at, hard-list, Hard, covering, continued, part-start, part-count, part}
+use Rattle.parabola.specs.Promise.{Covering-correct}
 use Rattle.parabola.proofs.Promises as parabola
 use Rattle.arc.proofs.Promises as arc
 use Rattle.domain.specs.Domain.{parabola-of, Accepted}
+use Rattle.domain.specs.Scan.{next-point}
 use Rattle.domain.specs.Phases.{marks}
 use Rattle.domain.specs.Answer.{domain-checks, domain-number, answer-with, domain-answer, marks-after, list-after, domain-refusal, domain-first, domain-count, scan-checks, scan-number, scan-answer-with, scan-answer, scan-list-after, scan-refusal, scan-count}
-use Rattle.domain.specs.Promise.{Parabola-correct, Hard-in-numbers, Refused-for, Scan-refused-for, Marks-correct, Domain-correct, Scan-correct, Promised}
+use Rattle.domain.specs.Promise.{Parabola-correct, Hard-in-numbers, Hard-in-segment, Coverings-correct, Refused-for, Scan-refused-for, Marks-correct, Domain-correct, Scan-correct, Promised}
 use Rattle.domain.specs.declared.Domain.{Domain}
 use Rattle.domain.specs.declared.DomainAnswer.the-variants as domain-variants
 use Rattle.domain.specs.declared.ScanAnswer.the-variants as scan-variants
 use Rattle.domain.proofs.Answers.{number-accepts, scan-accepts}
-use Rattle.domain.proofs.Numbers.{hard-by-numbers}
+use Rattle.domain.proofs.Numbers.{hard-by-numbers, hard-in-segment}
 use Rattle.domain.proofs.Verdicts.{arc-of, nothing-listed, phases-correct, marks-correct}
 
 parabola-correct : (d : Domain) → Parabola-correct d
 unfolding value-at triangle
 parabola-correct d =
     record { unit = refl; start = refl; slope = refl; curve = refl; count = refl; window = refl; value = λ x. refl }
+
+-- ---- covering segments
+
+-- of a parabola within the bounds
+within-bounds : {p : Parabola} → In-range p → segment.Accepted (covering p) × Covering-correct p
+within-bounds {p} r =
+    (arc.promised .arcs (arc-of p) .covering-accepted r, parabola.promised .coverings p (omega (arith, r .value-below)) (r .slope-below))
+
+coverings-correct : (d : Domain) → Accepted d → Coverings-correct d
+coverings-correct d a =
+    let whole = within-bounds (a .in-range) in
+    let parts = parabola.promised .parts (parabola-of d) a in
+    let of-part : (i : ℕ) → segment.Accepted (covering (part (parabola-of d) i)) × Covering-correct (part (parabola-of d) i)
+    = λ i. within-bounds (parts .in-range-of i) in
+    record {
+      whole = whole .1 .numbers;
+      whole-accepted = whole .0;
+      whole-covers = whole .1;
+      of-part = λ i h l e. unfold continued part-start part-count value-at slope-at triangle in rw e (of-part i .1 .numbers);
+      part-accepted = λ i l. of-part i .0;
+      part-covers = λ i l. of-part i .1;
+    }
 
 -- ---- domains
 
@@ -56,6 +82,11 @@ module _ (p : Parabola) where
 nothing-over : {xs : List ℕ} (old : List ℕ) → xs ≡ [] → overwrite-front xs old ≡ old
 unfolding overwrite-front
 nothing-over old e = rw e refl
+
+-- a list that ascends does so where it stands in a buffer
+ascends-in-front : {xs old new : List ℕ} → Buffer-correct xs old new → ((i j : ℕ) → i < j → j < length xs → getD xs i 0 < getD xs j 0)
+    → (i j : ℕ) → i < j → j < length xs → getD new i 0 < getD new j 0
+ascends-in-front b a i j h l = omega (arith, a i j h l, b .front i (omega arith), b .front j l)
 
 module _ (d : Domain) (old-marks old : List ℕ) where
   -- what is accepted leaves the marks and the list
@@ -82,9 +113,12 @@ module _ (d : Domain) (old-marks old : List ℕ) where
             subst (λ (m : List ℕ). Marks-correct (parabola-of d) v m) (sym (searched-leaves (r .0) .0))
             (rw (r .1) (marks-correct (taken (r .0) .0) (verdict regular (covering (parabola-of d)))));
         cleared = λ n e. cleared n (reports Clear n .0 e);
-        buffer = λ v n e. let r = reports v n .0 e in
-            subst (Buffer-correct (hard-list (parabola-of d)) old) (sym (searched-leaves (r .0) .1)) (front-correct (hard-list (parabola-of d)) old (taken (r .0) .1));
+        buffer = λ v n e. buffer (reports v n .0 e .0);
         hard = λ v n e. let r = reports v n .0 e in hard n (r .0) (r .2);
+        ascends = λ v n e. let r = reports v n .0 e in
+            let b = buffer (r .0) in
+            let l = parabola.promised .hard-lists (parabola-of d) (taken (r .0) .0 .in-range .count-high) in
+            λ i j h k. ascends-in-front b (l .ascending) i j h (omega (arith, r .2));
       }
     where
       number : ℕ
@@ -102,6 +136,9 @@ module _ (d : Domain) (old-marks old : List ℕ) where
 
       taken : domain-number d (length old) ≡ 0 → Accepted d × (length (hard-list (parabola-of d)) ≤ length old)
       taken = number-accepts d (length old) .0
+
+      buffer : domain-number d (length old) ≡ 0 → Buffer-correct (hard-list (parabola-of d)) old (list-after d old)
+      buffer e = subst (Buffer-correct (hard-list (parabola-of d)) old) (sym (searched-leaves e .1)) (front-correct (hard-list (parabola-of d)) old (taken e .1))
 
       by-numbers : (e : domain-number d (length old) ≡ 0) (x : ℕ) → Hard (parabola-of d) x ↔ Hard-in-numbers d x
       by-numbers e x = hard-by-numbers d x (omega (arith, taken e .0 .in-range .value-below))
@@ -153,10 +190,10 @@ module _ (s : Segment) where
           λ e. let r = scan-lists-with number n .0 e in let t = scan-accepts s (length old) .0 (r .0) in (t .0, t .1, r .1),
           λ h. scan-lists-with number n .1 (scan-accepts s (length old) .1 (h .0, h .1), h .2),
         );
-        buffer = λ n e. let z = scan-lists-with number n .0 e .0 in
-            subst (Buffer-correct (geometry.hard-list s) old) (sym (unrefused-new _ old z))
-            (front-correct (geometry.hard-list s) old (scan-accepts s (length old) .0 z .1));
+        buffer = λ n e. buffer (scan-lists-with number n .0 e .0);
         hard = λ n e. hard n (scan-lists-with number n .0 e);
+        ascends = λ n e. let r = scan-lists-with number n .0 e in
+            λ i j h k. ascends-in-front (buffer (r .0)) (listed (r .0) .ascending) i j h (omega (arith, r .1));
       }
     where
       number : ℕ
@@ -165,14 +202,33 @@ module _ (s : Segment) where
       by-number : (n : ℕ) → ((scan-number s (length old) ≡ n) × (n ≡ 0 → ⊥)) ↔ Scan-refused-for s (length old) n
       by-number = unfold scan-number in gives (scan-checks s (length old)) (omega arith)
 
+      taken : scan-number s (length old) ≡ 0 → segment.Accepted s × (length (geometry.hard-list s) ≤ length old)
+      taken = scan-accepts s (length old) .0
+
+      buffer : scan-number s (length old) ≡ 0
+          → Buffer-correct (geometry.hard-list s) old (unless-refused (scan-number s (length old)) (overwrite-front (geometry.hard-list s) old) old)
+      buffer e =
+          subst (Buffer-correct (geometry.hard-list s) old) (sym (unrefused-new _ old e)) (front-correct (geometry.hard-list s) old (taken e .1))
+
+      listed : scan-number s (length old) ≡ 0
+          → Enumerates (geometry.Hard s) (count-if (λ x. ltb (residue s x) (s .window)) (s .count) 0) (geometry.hard-list s)
+      listed e = geometry-promises.promised .hard-lists s (taken e .0 .searchable .count-high)
+
       hard : (n : ℕ) → (scan-number s (length old) ≡ 0) × (n ≡ length (geometry.hard-list s))
-          → Enumerates (geometry.Hard s) n (take n (unless-refused (scan-number s (length old)) (overwrite-front (geometry.hard-list s) old) old))
+          → Enumerates (Hard-in-segment (s .unit) (s .step) (s .start) (s .count) (s .window)) n
+          (take n (unless-refused (scan-number s (length old)) (overwrite-front (geometry.hard-list s) old) old))
       hard n r =
-          let l = geometry-promises.promised .hard-lists s (scan-accepts s (length old) .0 (r .0) .0 .searchable .count-high) in
+          let l = listed (r .0) in
+          let a = taken (r .0) .0 .searchable in
           let t : take n (unless-refused (scan-number s (length old)) (overwrite-front (geometry.hard-list s) old) old) ≡ geometry.hard-list s
           = ap₂ take (r .1) (unrefused-new _ old (r .0)) ∙ front-taken (geometry.hard-list s) old in
-          subst (Enumerates (geometry.Hard s) n) (sym t)
-          (record { exactly = l .exactly; ascending = l .ascending; fits = l .fits; counted = sym (r .1) })
+          subst (Enumerates (Hard-in-segment (s .unit) (s .step) (s .start) (s .count) (s .window)) n) (sym t)
+          (record {
+            exactly = λ x. let h = hard-in-segment s x (a .step-below) (a .start-below) in (λ m. h .0 (l .exactly x .0 m), λ i. l .exactly x .1 (h .1 i));
+            ascending = l .ascending;
+            fits = l .fits;
+            counted = sym (r .1);
+          })
 
 -- ---- all of it
 
@@ -182,8 +238,11 @@ promised =
       parabolas = parabola-correct;
       values = λ d positive. parabola.promised .values (parabola-of d) positive;
       hard-lists = λ d a. parabola.promised .hard-lists (parabola-of d) (a .in-range .count-high);
-      coverings = λ p range. (arc.promised .arcs (arc-of p) .covering-accepted range, parabola.promised .coverings p (omega (arith, range .value-below)) (range .slope-below));
+      accepted = λ d. (λ a. omega arith, λ h. omega arith);
+      coverings = coverings-correct;
       parts = λ d a. parabola.promised .parts (parabola-of d) a;
+      differences = λ p x positive. unfold next-point in
+          let v = parabola.promised .values p positive in λ j. record { value = sym (v .differences x) j; slope = sym (v .slope-differences x) j };
       phases = λ d a. phases-correct a;
       domains = domain-correct;
       scans = λ M a b N w old. unfold scan-answer scan-list-after in scan-correct (segment.asked M a b N w) old;

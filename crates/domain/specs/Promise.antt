@@ -4,12 +4,13 @@
 use mathlib.Core.Path.{_≡_}
 use mathlib.Core.List.{List, [], _∷_}
 use mathlib.Core.Logic.{_↔_}
-use Prim.Native.Nat.{ℕ, _+_, _-_, _*_, _/_, _%_, _^_, _≤_, _<_}
+use Prim.Native.Nat.{ℕ, suc, _+_, _-_, _*_, _/_, _%_, _^_, _≤_, _<_}
 use lib.IntN.{ℤ, pos, natAbs, _+ℤ_, _*ℤ_}
 use lib.ListN.{length, getD, take}
 use Rattle.numbers.specs.Checklist.{Condition, condition, Refused-by}
 use Rattle.numbers.specs.Integers.{_modulo_}
-use Rattle.numbers.specs.Lists.{Enumerates, count-if, overwrite-front, Buffer-correct}
+use Rattle.numbers.specs.Lists.{count-if, overwrite-front}
+use Rattle.numbers.specs.Promise.{Enumerates, Buffer-correct}
 use Rattle.expansion.specs.Reached.{Search}
 use Rattle.expansion.specs.Reached.Search.{regular, fine}
 use Rattle.geometry.specs.Segment.{Segment}
@@ -19,9 +20,10 @@ use Rattle.segment.specs.Search.{distance, verdict}
 use Rattle.segment.specs.Promise as segment-promise
 use Rattle.segment.specs.declared.Verdict.{Verdict}
 use Rattle.segment.specs.declared.Verdict.the-variants.{Clear, Possible}
-use Rattle.parabola.specs.Parabola.{Parabola, value-at, is-hard, hard-list, Hard, covering, part-start, part-count, part, In-range}
-use Rattle.parabola.specs.Promise.{Values-correct, Covering-correct, Parts-correct}
+use Rattle.parabola.specs.Parabola.{Parabola, value-at, slope-at, second-difference, is-hard, hard-list, Hard, covering, part-start, part-count, part}
+use Rattle.parabola.specs.Promise.{Values-correct, Covers-by, Covering-correct, Parts-correct}
 use Rattle.domain.specs.Domain.{parabola-of, Accepted}
+use Rattle.domain.specs.Scan.{next-point}
 use Rattle.domain.specs.Phases.{marks}
 use Rattle.domain.specs.Answer.{domain-answer, marks-after, list-after, domain-refusal, domain-first, domain-count, scan-answer, scan-list-after, scan-refusal, scan-count}
 use Rattle.domain.specs.declared.Domain.{Domain}
@@ -49,6 +51,24 @@ Hard-in-numbers d x =
     (x < d .count)
     × ((v : ℕ) × (v < d .modulus) × (v < d .window)
     × ((k : ℤ) × (pos (2 * v) ≡ pos (2 * (d .value + d .slope * x)) +ℤ d .curve *ℤ pos (x * (x - 1)) +ℤ k *ℤ pos (2 * d .modulus))))
+
+-- the same of a segment: below N, with an r below M and below w that differs from b - a·x by a multiple of M. With b below M that multiple is not negative
+abbrev pub Hard-in-segment : (M a b N w x : ℕ) → Type 0
+Hard-in-segment M a b N w x = (x < N) × ((r : ℕ) × (r < M) × (r < w) × ((k : ℕ) × (r + a * x ≡ b + k * M)))
+
+-- ---- the covering segments
+
+-- the covering segments of a domain and of its parts, in the call's own numbers: the part i begins at h = i·(N/8), and has value V(h), slope (c1 + s·h) mod M
+-- and N/8 arguments. The searches accept them
+pub record Coverings-correct (d : Domain) : Type 0 where
+  pub whole : Covers-by (d .modulus) (d .value) (d .slope) (d .curve) (d .count) (d .window) (covering (parabola-of d))
+  pub whole-accepted : segment.Accepted (covering (parabola-of d))
+  pub whole-covers : Covering-correct (parabola-of d)
+  pub of-part : (i h : ℕ) → i < 8 → h ≡ i * (d .count / 8)
+      → Covers-by (d .modulus) ((pos (d .value) +ℤ pos (d .slope) *ℤ pos h +ℤ d .curve *ℤ pos (h * (h - 1) / 2)) modulo d .modulus)
+      ((pos (d .slope) +ℤ d .curve *ℤ pos h) modulo d .modulus) (d .curve) (d .count / 8) (d .window) (covering (part (parabola-of d) i))
+  pub part-accepted : (i : ℕ) → i < 8 → segment.Accepted (covering (part (parabola-of d) i))
+  pub part-covers : (i : ℕ) → i < 8 → Covering-correct (part (parabola-of d) i)
 
 -- ---- the phases
 
@@ -129,8 +149,9 @@ pub record Domain-correct (d : Domain) (old-marks old : List ℕ) (answer : Doma
   pub written : (v : Verdict) (n : ℕ) → answer ≡ domain-variants.Searched v n
       → (new-marks ≡ marks (parabola-of d)) × (new ≡ overwrite-front (hard-list (parabola-of d)) old)
   pub buffer : (v : Verdict) (n : ℕ) → answer ≡ domain-variants.Searched v n → Buffer-correct (hard-list (parabola-of d)) old new
-  -- from the call's numbers to what then lies in the caller's list
+  -- from the call's numbers to what then lies in the caller's list, and that it ascends strictly there
   pub hard : (v : Verdict) (n : ℕ) → answer ≡ domain-variants.Searched v n → Enumerates (Hard-in-numbers d) n (take n new)
+  pub ascends : (v : Verdict) (n : ℕ) → answer ≡ domain-variants.Searched v n → (i j : ℕ) → i < j → j < n → getD new i 0 < getD new j 0
 
 -- what the scan of a segment is answered with a list `old`, and what is then in the list, `new`
 pub record Scan-correct (s : Segment) (old : List ℕ) (answer : ScanAnswer) (new : List ℕ) : Type 0 where
@@ -139,16 +160,26 @@ pub record Scan-correct (s : Segment) (old : List ℕ) (answer : ScanAnswer) (ne
   pub listed : (n : ℕ) → (answer ≡ scan-variants.Listed n)
       ↔ (segment.Accepted s × (length (geometry.hard-list s) ≤ length old) × (n ≡ length (geometry.hard-list s)))
   pub buffer : (n : ℕ) → answer ≡ scan-variants.Listed n → Buffer-correct (geometry.hard-list s) old new
-  pub hard : (n : ℕ) → answer ≡ scan-variants.Listed n → Enumerates (geometry.Hard s) n (take n new)
+  pub hard : (n : ℕ) → answer ≡ scan-variants.Listed n → Enumerates (Hard-in-segment (s .unit) (s .step) (s .start) (s .count) (s .window)) n (take n new)
+  pub ascends : (n : ℕ) → answer ≡ scan-variants.Listed n → (i j : ℕ) → i < j → j < n → getD new i 0 < getD new j 0
 
 -- ---- all of it
 
 pub record Promised : Type 0 where
   pub parabolas : (d : Domain) → Parabola-correct d
+  -- a domain is accepted exactly where its six numbers are within 01's bounds
+  pub accepted : (d : Domain)
+      → Accepted d
+      ↔ ((2 ≤ d .modulus) × (d .modulus ≤ 2 ^ 62) × (d .slope < d .modulus) × (d .value < d .modulus) × (8 ≤ d .count) × (d .count ≤ 1048576)
+      × (d .count % 8 ≡ 0) × (d .window ≤ d .modulus) × (natAbs (d .curve) ≤ 1048576))
   pub values : (d : Domain) → 0 < d .modulus → Values-correct (parabola-of d)
   pub hard-lists : (d : Domain) → Accepted d → Enumerates (Hard (parabola-of d)) (count-if (is-hard (parabola-of d)) (d .count) 0) (hard-list (parabola-of d))
-  pub coverings : (p : Parabola) → In-range p → segment.Accepted (covering p) × Covering-correct p
+  pub coverings : (d : Domain) → Accepted d → Coverings-correct d
   pub parts : (d : Domain) → Accepted d → Parts-correct (parabola-of d)
+  -- a scan goes from the value and the slope at x to those at x + 1
+  pub differences : (p : Parabola) (x : ℕ) → 0 < p .unit
+      → next-point (second-difference p) (p .unit) (record { value = value-at p x; slope = slope-at p x })
+      ≡ record { value = value-at p (suc x); slope = slope-at p (suc x) }
   pub phases : (d : Domain) → Accepted d → Phases-correct (parabola-of d)
   pub domains : (d : Domain) (old-marks old : List ℕ)
       → Domain-correct d old-marks old (domain-answer d (length old)) (marks-after d (length old) old-marks) (list-after d old)

@@ -1,7 +1,10 @@
 -- The settled examples, computed from the definitions. Assumes nothing.
-use mathlib.Core.Path.{refl}
+use mathlib.Core.Path.{_≡_, refl, _∙_}
 use mathlib.Core.Logic.{Dec·and}
+use Prim.Native.Nat.{ℕ, _≤_, _<_}
 use native.Mathlib.Decide.{decLe, decLt, ℕ-discrete}
+use native.Mathlib.Omega.{arith}
+use borrow.Author.Tests.{le-leb, lt-leb}
 use Rattle.numbers.specs.Checklist.{first-failing, unless-refused}
 use Rattle.numbers.specs.Integers.{_modulo_}
 use Rattle.numbers.specs.Unit.{ranged}
@@ -15,6 +18,10 @@ use Rattle.geometry.specs.Segment.{residue}
 use Rattle.segment.specs.Accepted as segments
 use Rattle.segment.specs.Search.{least-from, argument, distance, verdict-at}
 use Rattle.segment.specs.Answer.{regular-shown, fine-shown, regular-answer-with, fine-answer-with, regular-answer, fine-answer}
+use Rattle.segment.specs.declared.Verdict.the-variants.{Clear, Possible}
+use Rattle.segment.specs.declared.RegularAnswer.the-variants as regular-variants
+use Rattle.segment.specs.declared.FineAnswer.the-variants as fine-variants
+use Rattle.segment.proofs.Promises as segment-promises
 use Rattle.parabola.specs.Parabola as parabola
 use Rattle.parabola.specs.Parabola.{triangle, value-at, slope-at, spread, covering-step, start-over, covering-start, covering-window, continued, part-count, part-start}
 use Rattle.domain.specs.Phases.{mark-of, marks-by}
@@ -23,7 +30,7 @@ use Rattle.text.specs.Text.{decimal-within, decimal}
 use Rattle.text.specs.Reading.{starts, takes-digit, digits-from, number-from, field-at, unsigned, opposite, signed-from, signed-field-at}
 use Rattle.job.specs.Reading.{rest-from, reading}
 use Rattle.job.specs.Output.{verdict-name, argument-lines, refused, report, printed-for, printed, output-with, output-of}
-use Rattle.examples.specs.Settled.{Example-1, Example-9, Example-10, Example-11, Settled}
+use Rattle.examples.specs.Settled.{Example-1, Example-6, Example-7, Example-8, Example-9, Example-10, Example-11, Settled}
 
 example-1 : Example-1
 unfolding decLe decLt Dec·and ℕ-discrete ranged first-failing rows-from expansion zero-padded refusal answer-with answer regular-from regular parts-from fine-from fine
@@ -36,6 +43,65 @@ example-1 =
       regular-counts = refl;
       fine-counts = refl;
     }
+
+-- ---- for every window
+
+-- an accepted segment is answered with what its search shows
+module _ (M a b N w : ℕ) (c : segments.Accepted (segments.asked M a b N w)) where
+  regular-answered : regular-answer M a b N w ≡ regular-variants.Shown (regular-shown (segments.asked M a b N w))
+  unfolding regular-answer regular-answer-with
+  regular-answered = rw (segment-promises.promised .accepted M a b N w .1 c)
+
+  fine-answered : fine-answer M a b N w ≡ fine-variants.Shown (fine-shown (segments.asked M a b N w))
+  unfolding fine-answer fine-answer-with
+  fine-answered = rw (segment-promises.promised .accepted M a b N w .1 c)
+
+-- the verdict is clear up to the distance, and possible above it
+clear : (d w : ℕ) → w ≤ d → verdict-at d w ≡ Clear
+unfolding verdict-at
+clear d w h = rw (le-leb w d h)
+
+possible : (d w : ℕ) → d < w → verdict-at d w ≡ Possible
+unfolding verdict-at
+possible d w h = rw (lt-leb w d h)
+
+example-6 : Example-6
+unfolding rows-from expansion parts-from fine-from fine configurations-of reached-in reached residue least-from argument distance fine-shown
+example-6 =
+    record {
+      clear = λ w m h. fine-answered 45 15 44 10 w (omega arith) ∙ rw (clear 14 w h);
+      possible = λ w m h. fine-answered 45 15 44 10 w (omega arith) ∙ rw (possible 14 w h);
+    }
+
+example-7 : Example-7
+unfolding rows-from expansion regular-from regular parts-from fine-from fine configurations-of reached-in reached residue least-from argument distance regular-shown fine-shown
+example-7 =
+    record {
+      by-regular = record {
+        clear = λ w m h. regular-answered 45 44 0 3 w (omega arith) ∙ rw (clear 0 w h);
+        possible = λ w m h. regular-answered 45 44 0 3 w (omega arith) ∙ rw (possible 0 w h);
+      };
+      by-fine = record {
+        clear = λ w m h. fine-answered 45 44 0 3 w (omega arith) ∙ rw (clear 0 w h);
+        possible = λ w m h. fine-answered 45 44 0 3 w (omega arith) ∙ rw (possible 0 w h);
+      };
+    }
+
+example-8 : Example-8
+unfolding rows-from expansion regular-from regular parts-from fine-from fine configurations-of reached-in reached residue least-from argument distance regular-shown fine-shown
+example-8 =
+    record {
+      by-regular = record {
+        clear = λ w m h. regular-answered 45 14 44 1 w (omega arith) ∙ rw (clear 44 w h);
+        possible = λ w m h. regular-answered 45 14 44 1 w (omega arith) ∙ rw (possible 44 w h);
+      };
+      by-fine = record {
+        clear = λ w m h. fine-answered 45 14 44 1 w (omega arith) ∙ rw (clear 44 w h);
+        possible = λ w m h. fine-answered 45 14 44 1 w (omega arith) ∙ rw (possible 44 w h);
+      };
+    }
+
+-- ---- scans and domains
 
 example-9 : Example-9
 unfolding decLe decLt Dec·and ℕ-discrete ranged first-failing unless-refused filter-range overwrite-front residue geometry.is-hard geometry.hard-list scan-number scan-answer-with scan-answer scan-list-after
@@ -79,9 +145,9 @@ settled =
       p3 = refl;
       p4 = record { by-regular = refl; by-fine = refl };
       p5 = record { regular-clear = refl; regular-possible = refl; fine-clear = refl; fine-possible = refl };
-      p6 = λ w. refl;
-      p7 = record { by-regular = λ w. refl; by-fine = λ w. refl };
-      p8 = record { by-regular = λ w. refl; by-fine = λ w. refl; regular-answers = refl; fine-answers = refl };
+      p6 = example-6;
+      p7 = example-7;
+      p8 = example-8;
       p9 = example-9;
       p10 = example-10;
       p11 = example-11;

@@ -1,15 +1,14 @@
 -- Document 01's settled examples marked P, as one statement with a field for each. Assumes nothing: these are statements.
 use mathlib.Core.Path.{_≡_}
 use mathlib.Core.List.{List, [], _∷_}
-use Prim.Native.Nat.{ℕ}
+use Prim.Native.Nat.{ℕ, _≤_, _<_}
 use lib.IntN.{ℤ, pos, negsuc}
 use lib.ListN.{replicate}
 use Rattle.expansion.specs.Rows.{expansion, remainders, denominators, quotients}
 use Rattle.expansion.specs.Configurations.{counts, regular, fine}
 use Rattle.expansion.specs.Answer.{answer}
 use Rattle.geometry.specs.Segment.{segment, hard-list}
-use Rattle.segment.specs.Search.{verdict-at}
-use Rattle.segment.specs.Answer.{regular-shown, fine-shown, regular-answer, fine-answer}
+use Rattle.segment.specs.Answer.{regular-answer, fine-answer}
 use Rattle.segment.specs.declared.Verdict.the-variants.{Clear, Possible}
 use Rattle.segment.specs.declared.RegularAnswer.the-variants as regular-variants
 use Rattle.segment.specs.declared.FineAnswer.the-variants as fine-variants
@@ -71,30 +70,36 @@ pub record Example-5 : Type 0 where
   pub fine-possible : fine-answer 45 0 9 1048576 10
       ≡ fine-variants.Shown (record { count = 1; index = 0; part = 0; distance = 9; argument = 0; verdict = Possible })
 
--- M 45, a 15, b 44, N 10, fine: n 3, label (0, 2), distance 14 at 2; the window is not told
+-- where 01 tells no window: what a search answers for every one up to M, clear where the distance is at least the window, and possible where it is less
+pub record Regular-shows (M a b N count quotients distance argument : ℕ) : Type 0 where
+  pub clear : (w : ℕ) → w ≤ M → w ≤ distance
+      → regular-answer M a b N w
+      ≡ regular-variants.Shown (record { count = count; quotients = quotients; distance = distance; argument = argument; verdict = Clear })
+  pub possible : (w : ℕ) → w ≤ M → distance < w
+      → regular-answer M a b N w
+      ≡ regular-variants.Shown (record { count = count; quotients = quotients; distance = distance; argument = argument; verdict = Possible })
+
+pub record Fine-shows (M a b N count index part distance argument : ℕ) : Type 0 where
+  pub clear : (w : ℕ) → w ≤ M → w ≤ distance
+      → fine-answer M a b N w
+      ≡ fine-variants.Shown (record { count = count; index = index; part = part; distance = distance; argument = argument; verdict = Clear })
+  pub possible : (w : ℕ) → w ≤ M → distance < w
+      → fine-answer M a b N w
+      ≡ fine-variants.Shown (record { count = count; index = index; part = part; distance = distance; argument = argument; verdict = Possible })
+
+-- M 45, a 15, b 44, N 10, fine: n 3, label (0, 2), distance 14 at 2
 abbrev pub Example-6 : Type 0
-Example-6 =
-    (w : ℕ)
-    → fine-shown (segment 45 15 44 10 w) ≡ record { count = 3; index = 0; part = 2; distance = 14; argument = 2; verdict = verdict-at 14 w }
+Example-6 = Fine-shows 45 15 44 10 3 0 2 14 2
 
--- M 45, a 44, b 0, N 3: regular n 45, index 2; fine n 3, label (1, 1); the window is not told, nor that both show distance 0 at 0
+-- M 45, a 44, b 0, N 3: regular n 45, index 2; fine n 3, label (1, 1). 01 does not tell that both show distance 0 at 0
 pub record Example-7 : Type 0 where
-  pub by-regular : (w : ℕ)
-      → regular-shown (segment 45 44 0 3 w) ≡ record { count = 45; quotients = 2; distance = 0; argument = 0; verdict = verdict-at 0 w }
-  pub by-fine : (w : ℕ)
-      → fine-shown (segment 45 44 0 3 w) ≡ record { count = 3; index = 1; part = 1; distance = 0; argument = 0; verdict = verdict-at 0 w }
+  pub by-regular : Regular-shows 45 44 0 3 45 2 0 0
+  pub by-fine : Fine-shows 45 44 0 3 3 1 1 0 0
 
--- M 45, a 14, b 44, N 1: n 1, distance 44; by either search; the window is not told
+-- M 45, a 14, b 44, N 1: n 1, distance 44; by either search, at argument 0
 pub record Example-8 : Type 0 where
-  pub by-regular : (w : ℕ)
-      → regular-shown (segment 45 14 44 1 w) ≡ record { count = 1; quotients = 0; distance = 44; argument = 0; verdict = verdict-at 44 w }
-  pub by-fine : (w : ℕ)
-      → fine-shown (segment 45 14 44 1 w) ≡ record { count = 1; index = 0; part = 0; distance = 44; argument = 0; verdict = verdict-at 44 w }
-  -- with a window of 44, the whole answers
-  pub regular-answers : regular-answer 45 14 44 1 44
-      ≡ regular-variants.Shown (record { count = 1; quotients = 0; distance = 44; argument = 0; verdict = Clear })
-  pub fine-answers : fine-answer 45 14 44 1 44
-      ≡ fine-variants.Shown (record { count = 1; index = 0; part = 0; distance = 44; argument = 0; verdict = Clear })
+  pub by-regular : Regular-shows 45 14 44 1 1 0 44 0
+  pub by-fine : Fine-shows 45 14 44 1 1 0 0 44 0
 
 -- the scan of M 45, a 14, b 44, N 16: w 6 lists 3, 6; w 3 lists 3; w 0 lists none. A place more stays as it was, and w 6 with one place is 7
 pub record Example-9 : Type 0 where

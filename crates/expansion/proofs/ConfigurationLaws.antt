@@ -12,11 +12,11 @@ use Rattle.numbers.proofs.Remainders.{quotient-positive}
 use Rattle.numbers.proofs.Lists.{Ascending-from, ascending}
 use Rattle.numbers.proofs.Lists.Ascending-from.{ascending-nil, ascending-cons}
 use Rattle.expansion.specs.Rows.{expansion, rows-from, last, denominator-at, quotient-at, denominator-before, period}
-use Rattle.expansion.specs.Configurations.{Configuration, configuration, none, counts, last-of, regular, regular-from, fine, fine-from}
+use Rattle.expansion.specs.Configurations.{Configuration, configuration, none, counts, regular, regular-from, fine, fine-from}
 use Rattle.expansion.specs.Promise.{Regular-correct, Fine-correct}
 use Rattle.expansion.proofs.Unrolling.{expansion-unrolled, first-row}
 use Rattle.expansion.proofs.Recurrences.{kept-first, several-rows}
-use Rattle.expansion.proofs.Regular.{relabelled, regular-many, regular-at, regular-final, regular-ascend}
+use Rattle.expansion.proofs.Regular.{last-of, relabelled, regular-many, regular-at, regular-final, regular-ascend}
 use Rattle.expansion.proofs.Fine.{fine-ascend, fine-has, fine-only, fine-first, fine-final}
 use Rattle.expansion.proofs.RowLaws.{last-index, kept, beside, second-row}
 
@@ -41,11 +41,12 @@ module _ (M a : ℕ) (small : a < M) where
   unfolding regular denominator-at denominator-before
   regular-of-row i l = rw zero-add at (regular-at (expansion-unrolled M a) 0 i (omega (arith, last-index M a)))
 
-  regular-last : last-of (regular M a) ≡ configuration (period M a) (last M a) 0
+  regular-last : getD (regular M a) (last M a) none ≡ configuration (period M a) (last M a) 0
   unfolding regular period denominator-at
-  regular-last =
-      let e : length (regular M a) - 1 ≡ last M a = omega (arith, regular-length) in
-      rw e (rw zero-add at (regular-final (expansion-unrolled M a) 0 (last M a) (last-index M a)))
+  regular-last = rw zero-add at (regular-final (expansion-unrolled M a) 0 (last M a) (last-index M a))
+
+  pub last-regular : last-of (regular M a) ≡ getD (regular M a) (last M a) none
+  last-regular = ap (λ (i : ℕ). getD (regular M a) i none) (omega (arith, regular-length))
 
   fine-has-correct : (i t : ℕ) → i < last M a → t < quotient-at M a i
       → List·Memᴰ (configuration (denominator-at M a i + denominator-before M a i + t * denominator-at M a i) i t) (fine M a)
@@ -89,7 +90,7 @@ module _ (M a : ℕ) (small : a < M) where
             (eq-zero-or-pos a);
         ascend = ascending regular-ascends;
         among-fine = λ i l. Memᴰ·cast (regular-of-row i l ∙ relabelled (omega arith) refl refl) (fine-has-correct i 0 l (quotient-some i l));
-        last-among-fine = ⊎-elim (λ e. rw (regular-of-zero e, fine-of-zero e)) (λ h. rw (regular-last, fine-last h)) (eq-zero-or-pos a);
+        last-among-fine = ⊎-elim (λ e. rw (sym last-regular, regular-of-zero e, fine-of-zero e)) (λ h. rw (regular-last, fine-last h)) (eq-zero-or-pos a);
         of-zero = regular-of-zero;
       }
 

@@ -13,11 +13,11 @@ use Rattle.numbers.proofs.Remainders.{quotient-positive}
 use Rattle.numbers.proofs.Lists.{Ascending-from}
 use Rattle.numbers.proofs.Lists.Ascending-from.{ascending-nil, ascending-cons}
 use Rattle.expansion.specs.Rows.{Row, row, denominators, quotients}
-use Rattle.expansion.specs.Configurations.{Configuration, configuration, none, counts, last-of, parts-from, fine-from}
+use Rattle.expansion.specs.Configurations.{Configuration, configuration, none, counts, parts-from, fine-from}
 use Rattle.expansion.proofs.Unrolling.{Rows, some-row, first-row}
 use Rattle.expansion.proofs.Unrolling.Rows.{end, next}
 use Rattle.expansion.proofs.Recurrences.{Kept, kept-next, single-row, several-rows}
-use Rattle.expansion.proofs.Regular.{relabelled}
+use Rattle.expansion.proofs.Regular.{last-of, relabelled}
 
 pub fine-next : (i p u q k : ℕ) (rs : List Row) → 0 < u → fine-from i p (row u q k ∷ rs) ≡ parts-from k 0 i p q ++ fine-from (suc i) q rs
 unfolding fine-from

@@ -1,7 +1,7 @@
 -- The regular configurations: one for each row, with counts that ascend from 1 to the last denominator. Assumes nothing.
 use mathlib.Core.Path.{_≡_, refl, _∙_, ap}
 use mathlib.Core.List.{List, [], _∷_}
-use Prim.Native.Nat.{ℕ, zero, suc, _+_, _≤_, _<_}
+use Prim.Native.Nat.{ℕ, zero, suc, _+_, _-_, _≤_, _<_}
 use native.Mathlib.Nat.{mul-le-mul-right}
 use native.Mathlib.Omega.{arith}
 use borrow.Author.Tests.{ne-eqb}
@@ -10,10 +10,14 @@ use Rattle.numbers.proofs.Remainders.{quotient-positive, quotient-two}
 use Rattle.numbers.proofs.Lists.{Ascending-from}
 use Rattle.numbers.proofs.Lists.Ascending-from.{ascending-nil, ascending-cons}
 use Rattle.expansion.specs.Rows.{Row, row, denominators}
-use Rattle.expansion.specs.Configurations.{configuration, none, counts, regular-from}
+use Rattle.expansion.specs.Configurations.{Configuration, configuration, none, counts, regular-from}
 use Rattle.expansion.proofs.Unrolling.{Rows, some-row}
 use Rattle.expansion.proofs.Unrolling.Rows.{end, next}
 use Rattle.expansion.proofs.Recurrences.{Kept, kept-next}
+
+-- the last of some configurations
+abbrev pub last-of : List Configuration → Configuration
+last-of cs = getD cs (length cs - 1) none
 
 -- configurations are equal that agree in count, index and part
 pub relabelled : {n n′ i i′ t t′ : ℕ} → n ≡ n′ → i ≡ i′ → t ≡ t′ → configuration n i t ≡ configuration n′ i′ t′

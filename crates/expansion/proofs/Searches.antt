@@ -14,14 +14,14 @@ use Rattle.numbers.proofs.Lists.{Ascending-from, member-at, member-place}
 use Rattle.numbers.proofs.Lists.Ascending-from.{ascending-cons}
 use Rattle.numbers.proofs.Remainders.{quotient-positive}
 use Rattle.expansion.specs.Rows.{Row, period, last}
-use Rattle.expansion.specs.Configurations.{Configuration, none, counts, last-of, regular-from, regular as all-regular, fine as all-fine}
+use Rattle.expansion.specs.Configurations.{Configuration, none, counts, regular-from, regular as all-regular, fine as all-fine}
 use Rattle.expansion.specs.Reached.{Search, configurations-of, reached-in, reached}
 use Rattle.expansion.specs.Reached.Search.{regular, fine}
 use Rattle.expansion.specs.Promise.{Reached-correct, Searches-correct}
 use Rattle.expansion.proofs.Unrolling.{Rows, expansion-unrolled, some-row}
 use Rattle.expansion.proofs.Unrolling.Rows.{end, next}
-use Rattle.expansion.proofs.Regular.{relabelled, regular-next, regular-end, regular-many}
-use Rattle.expansion.proofs.ConfigurationLaws.{regular-correct, fine-correct, regular-ascends, fine-ascends}
+use Rattle.expansion.proofs.Regular.{last-of, relabelled, regular-next, regular-end, regular-many}
+use Rattle.expansion.proofs.ConfigurationLaws.{regular-correct, fine-correct, last-regular, regular-ascends, fine-ascends}
 use Rattle.expansion.proofs.Reaching.{reached-here, reached-last, reached-later}
 
 abbrev count-of : {c d : Configuration} → c ≡ d → c .count ≡ d .count
@@ -108,7 +108,7 @@ module _ (M a : ℕ) (small : a < M) where
   unfolding reached configurations-of
   reached-correct regular N =
       let r = regular-correct M a small in
-      in-order N (period M a) (all-regular M a) (regular-ascends M a small) (omega (arith, r .many)) (count-of (r .last-one))
+      in-order N (period M a) (all-regular M a) (regular-ascends M a small) (omega (arith, r .many)) (count-of (last-regular M a small ∙ r .last-one))
   reached-correct fine N =
       let r = regular-correct M a small in
       let some = some-of (all-fine M a) (count-of (fine-correct M a small .first-one)) in
@@ -125,7 +125,7 @@ module _ (M a : ℕ) (small : a < M) where
       let r = regular-correct M a small in
       let p = member-place none c (all-regular M a) m in
       by-cases (decLt (p .0) (last M a)) (λ h. (getD (all-regular M a) (p .0) none, r .among-fine (p .0) h, count-of (p .2)))
-      (λ h. let i : p .0 ≡ length (all-regular M a) - 1 = omega (arith, p .1, r .many) in
+      (λ h. let i : p .0 ≡ last M a = omega (arith, p .1, r .many) in
       let most = reached-correct fine (suc (period M a)) in
       (reached fine M a (suc (period M a)), most .among, most .at-period (omega arith) ∙ sym (count-of (r .last-one)) ∙ count-of (rw i at (p .2))))
 

@@ -3,9 +3,8 @@
 -- Assumes nothing: these are definitions.
 use mathlib.Core.Bool.{cond}
 use mathlib.Core.List.{List, [], _∷_, _++_, map}
-use Prim.Native.Nat.{ℕ, zero, suc, _+_, _-_, _*_}
+use Prim.Native.Nat.{ℕ, zero, suc, _+_, _*_}
 use lib.Dec.{eqb}
-use lib.ListN.{length, getD}
 use Rattle.expansion.specs.Rows.{Row, expansion}
 
 -- how many points, and the label (i, t): the index of the row, and which part of its quotient has been added (0 for a regular one)
@@ -23,10 +22,6 @@ counts = map (λ (c : Configuration). c .count)
 -- in place of a configuration that is not there
 abbrev pub none : Configuration
 none = configuration 0 0 0
-
--- the last of some configurations
-abbrev pub last-of : List Configuration → Configuration
-last-of cs = getD cs (length cs - 1) none
 
 -- from row i on, with p the denominator before it: q(i) + q(i-1) while theta(i) is not 0, then the last denominator
 unfoldable pub regular-from : (i p : ℕ) → List Row → List Configuration

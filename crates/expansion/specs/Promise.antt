@@ -6,10 +6,10 @@ use mathlib.Core.Logic.{_↔_, _⊎_}
 use Prim.Native.Nat.{ℕ, suc, _+_, _-_, _*_, _/_, _%_, _^_, _≤_, _<_, _∣_}
 use lib.ListN.{length, getD, replicate}
 use Rattle.numbers.specs.Checklist.{Condition, condition, Refused-by}
-use Rattle.numbers.specs.Divisors.{gcd, Greatest-common-divisor}
-use Rattle.numbers.specs.Lists.{Ascending}
+use Rattle.numbers.specs.Divisors.{gcd}
+use Rattle.numbers.specs.Promise.{Greatest-common-divisor}
 use Rattle.expansion.specs.Rows.{expansion, last, remainder-at, denominator-at, quotient-at, remainder-before, denominator-before, period}
-use Rattle.expansion.specs.Configurations.{Configuration, configuration, none, counts, last-of, regular, fine}
+use Rattle.expansion.specs.Configurations.{Configuration, configuration, none, counts, regular, fine}
 use Rattle.expansion.specs.Reached.{Search, configurations-of, reached}
 use Rattle.expansion.specs.Reached.Search.{regular as regular-search, fine as fine-search}
 use Rattle.expansion.specs.Answer.{refusal, answer}
@@ -65,12 +65,12 @@ pub record Period-correct (M a : ℕ) : Type 0 where
 pub record Regular-correct (M a : ℕ) : Type 0 where
   pub many : length (regular M a) ≡ suc (last M a)
   pub of-row : (i : ℕ) → i < last M a → getD (regular M a) i none ≡ configuration (denominator-at M a i + denominator-before M a i) i 0
-  pub last-one : last-of (regular M a) ≡ configuration (period M a) (last M a) 0
+  pub last-one : getD (regular M a) (last M a) none ≡ configuration (period M a) (last M a) 0
   pub first-one : getD (regular M a) 0 none ≡ configuration 1 0 0
-  pub ascend : Ascending (counts (regular M a))
+  pub ascend : (i j : ℕ) → i < j → j < length (counts (regular M a)) → getD (counts (regular M a)) i 0 < getD (counts (regular M a)) j 0
   -- each before the last is a fine one, of the label (i, 0); the last has the count of the last fine one
   pub among-fine : (i : ℕ) → i < last M a → List·Memᴰ (getD (regular M a) i none) (fine M a)
-  pub last-among-fine : last-of (regular M a) .count ≡ last-of (fine M a) .count
+  pub last-among-fine : getD (regular M a) (last M a) none .count ≡ getD (fine M a) (length (fine M a) - 1) none .count
   -- where the step is 0, the one of a single point
   pub of-zero : a ≡ 0 → regular M a ≡ configuration 1 0 0 ∷ []
 
@@ -82,9 +82,10 @@ pub record Fine-correct (M a : ℕ) : Type 0 where
       → (c .index < last M a) × (c .part < quotient-at M a (c .index))
       × (c .count ≡ denominator-at M a (c .index) + denominator-before M a (c .index) + c .part * denominator-at M a (c .index))
   -- the last one has P points and the label (m-1, k(m)-1)
-  pub last-one : 0 < a → last-of (fine M a) ≡ configuration (period M a) (last M a - 1) (quotient-at M a (last M a - 1) - 1)
+  pub last-one : 0 < a
+      → getD (fine M a) (length (fine M a) - 1) none ≡ configuration (period M a) (last M a - 1) (quotient-at M a (last M a - 1) - 1)
   pub first-one : getD (fine M a) 0 none ≡ configuration 1 0 0
-  pub ascend : Ascending (counts (fine M a))
+  pub ascend : (i j : ℕ) → i < j → j < length (counts (fine M a)) → getD (counts (fine M a)) i 0 < getD (counts (fine M a)) j 0
   -- where the step is 0, the one of a single point
   pub of-zero : a ≡ 0 → fine M a ≡ configuration 1 0 0 ∷ []
 

@@ -1,7 +1,8 @@
 -- All that is promised of residues and hard arguments. Assumes nothing.
 use Prim.Native.Nat.{_≤_, _<_}
 use lib.Dec.{ltb}
-use Rattle.numbers.specs.Lists.{Enumerates, count-if}
+use Rattle.numbers.specs.Lists.{count-if}
+use Rattle.numbers.specs.Promise.{Enumerates}
 use Rattle.numbers.proofs.Selections.{less, enumerates}
 use Rattle.geometry.specs.Segment.{Segment, residue, Hard, is-hard, hard-list}
 use Rattle.geometry.specs.Promise.{Promised}

@@ -3,7 +3,8 @@
 use mathlib.Core.Path.{_≡_}
 use Prim.Native.Nat.{ℕ, _+_, _*_, _%_, _≤_, _<_}
 use lib.Dec.{ltb}
-use Rattle.numbers.specs.Lists.{Enumerates, count-if}
+use Rattle.numbers.specs.Lists.{count-if}
+use Rattle.numbers.specs.Promise.{Enumerates}
 use Rattle.expansion.specs.Rows.{period}
 use Rattle.geometry.specs.Segment.{Segment, residue, Hard, hard-list}
 

@@ -6,7 +6,8 @@ use Prim.Native.Nat.{ℕ, _*_, _^_, _≤_, _<_}
 use native.Mathlib.Omega.{arith}
 use lib.ListN.{length, take, replicate, length-append, length-replicate, length-map}
 use lib.Seq.{sets}
-use Rattle.numbers.specs.Lists.{Enumerates, overwrite-front, place-after}
+use Rattle.numbers.specs.Lists.{overwrite-front, place-after}
+use Rattle.numbers.specs.Promise.{Enumerates}
 use Rattle.numbers.proofs.Buffers.{front-taken, clip-front}
 use Rattle.numbers.proofs.Checklists.{refused-at-most}
 use Rattle.segment.specs.declared.Verdict.{Verdict}

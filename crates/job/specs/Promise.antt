@@ -6,7 +6,8 @@ use mathlib.Core.Logic.{_↔_}
 use Prim.Native.Nat.{ℕ, _+_, _^_, _≤_, _<_}
 use lib.IntN.{ℤ, natAbs}
 use lib.ListN.{length, take}
-use Rattle.numbers.specs.Lists.{Enumerates, overwrite-front, Buffer-correct}
+use Rattle.numbers.specs.Lists.{overwrite-front}
+use Rattle.numbers.specs.Promise.{Enumerates, Buffer-correct}
 use Rattle.segment.specs.declared.Verdict.{Verdict}
 use Rattle.segment.specs.declared.Verdict.the-variants.{Clear, Possible}
 use Rattle.parabola.specs.Parabola.{hard-list}

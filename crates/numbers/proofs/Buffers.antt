@@ -9,7 +9,8 @@ use native.Mathlib.Decide.{decLe}
 use native.Mathlib.Omega.{arith}
 use lib.ListN.{length, getD, set, take, drop, replicate, length-append, length-drop, length-replicate, length-set, List·getD-append}
 use lib.Seq.{set-out, sets, sets-eq, length-sets, getD-append-add, getD-drop, take-append-seam}
-use Rattle.numbers.specs.Lists.{zero-padded, overwrite-front, place-after, Buffer-correct}
+use Rattle.numbers.specs.Lists.{zero-padded, overwrite-front, place-after}
+use Rattle.numbers.specs.Promise.{Buffer-correct}
 use Rattle.numbers.proofs.Lists.{drop-replicate}
 
 -- the list `goal` goes into the buffer `old` from the place `from` on; of it `rest` is still to be written into the buffer `now`, from the place

@@ -4,7 +4,8 @@ use mathlib.Core.Path.{_≡_, refl, sym, _∙_, ap, subst}
 use Prim.Native.Nat.{ℕ, zero, suc, _*_, _%_, _≤_, _<_, _∣_}
 use native.Mathlib.Nat.{mod-lt, dvd-refl, dvd-zero, dvd-mod-iff, dvd-mul-right, mul-zero, zero-mul, not-suc-le-zero}
 use native.Mathlib.Omega.{arith}
-use Rattle.numbers.specs.Divisors.{gcd-from, gcd, Greatest-common-divisor}
+use Rattle.numbers.specs.Divisors.{gcd-from, gcd}
+use Rattle.numbers.specs.Promise.{Greatest-common-divisor}
 use Rattle.numbers.proofs.Remainders.{scaled-remainder}
 
 -- more fuel changes nothing

@@ -40,14 +40,15 @@ sum {z = pos m} {w = negsuc n} p q = record { balance = omega (arith, p .balance
 sum {z = negsuc m} {w = pos n} p q = record { balance = omega (arith, p .balance, q .balance, difference n (suc m) .balance) }
 sum {z = negsuc m} {w = negsuc n} p q = record { balance = omega (arith, p .balance, q .balance) }
 
-opposite : (n : ℕ) → Difference (negℤ (pos n)) 0 n
-opposite zero = record { balance = refl }
-opposite (suc n) = record { balance = refl }
+-- -n
+pub negated : (n : ℕ) → Difference (negℤ (pos n)) 0 n
+negated zero = record { balance = refl }
+negated (suc n) = record { balance = refl }
 
 -- s·y
 pub product : (s : ℤ) (y : ℕ) → Difference (s *ℤ pos y) (gain s * y) (loss s * y)
 product (pos n) y = record { balance = omega arith }
-product (negsuc n) y = record { balance = omega (arith, opposite (suc n * y) .balance) }
+product (negsuc n) y = record { balance = omega (arith, negated (suc n * y) .balance) }
 
 -- z·y
 pub scaled : {z : ℤ} {a b : ℕ} (y : ℕ) → Difference z a b → Difference (z *ℤ pos y) (a * y) (b * y)

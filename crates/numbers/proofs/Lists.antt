@@ -9,7 +9,11 @@ use native.Mathlib.Nat.{suc-sub-suc, sub-zero, zero-sub, not-suc-le-zero}
 use native.Mathlib.Omega.{arith}
 use lib.ListN.{length, getD, drop, replicate, length-append, length-replicate, List·getD-append}
 use lib.Seq.{getD-append-add, drop-drop, drop-at}
-use Rattle.numbers.specs.Lists.{Ascending, zero-padded}
+use Rattle.numbers.specs.Lists.{zero-padded}
+
+-- strictly ascending, by places: of two places the later one holds the larger number
+abbrev pub Ascending : List ℕ → Type 0
+Ascending xs = (i j : ℕ) → i < j → j < length xs → getD xs i 0 < getD xs j 0
 
 -- each number is at least the bound, and larger than the number before it
 pub data Ascending-from : ℕ → List ℕ → Type 0 where

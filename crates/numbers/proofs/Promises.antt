@@ -18,7 +18,10 @@ conditions-correct =
       none = λ n h. h;
       fails = λ k n P cs f. (λ h. ⊎-elim (λ l. l .0) (λ r. absurd (f (r .0))) h, λ e. inl (e, f));
       passes = λ k n P cs p. (λ h. ⊎-elim (λ l. absurd (l .1 p)) (λ r. r .1) h, λ h. inr (p, h));
+      nothing-asked = tt;
       all-hold = λ k P cs. (λ h. h, λ h. h);
+      nothing-numbered = tt;
+      numbered = λ k P cs. (λ h. h, λ h. h);
     }
 
 buffers-correct : Buffers-correct

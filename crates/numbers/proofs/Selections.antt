@@ -12,7 +12,8 @@ use lib.ListN.{length, getD}
 use lib.Dec.{ltb}
 use mir.Val.{boolByte}
 use borrow.Author.Tests.{lt-ltb, ltb-true}
-use Rattle.numbers.specs.Lists.{filter-range, count-if, Enumerates, tabulate}
+use Rattle.numbers.specs.Lists.{filter-range, count-if, tabulate}
+use Rattle.numbers.specs.Promise.{Enumerates}
 use Rattle.numbers.proofs.Lists.{Ascending-from, ascending}
 use Rattle.numbers.proofs.Lists.Ascending-from.{ascending-nil, ascending-cons}
 

@@ -1,4 +1,4 @@
--- Lists of numbers: strictly ascending, all that have a property, the values of a function, one after another, and as the front of an array.
+-- Lists of numbers: all that have a property, the values of a function, one after another, and as the front of an array.
 -- Assumes nothing: these are definitions.
 use mathlib.Core.Path.{_≡_}
 use mathlib.Core.Bool.{Bool, cond}
@@ -6,10 +6,6 @@ use mathlib.Core.List.{List, [], _∷_, _++_, List·Memᴰ}
 use mathlib.Core.Logic.{_↔_}
 use Prim.Native.Nat.{ℕ, zero, suc, _+_, _-_, _^_, _≤_, _<_, min, max}
 use lib.ListN.{length, getD, drop, replicate}
-
--- strictly ascending: of two places the later one holds the larger number
-abbrev pub Ascending : List ℕ → Type 0
-Ascending xs = (i j : ℕ) → i < j → j < length xs → getD xs i 0 < getD xs j 0
 
 -- an array of n places that begins with a list and has zeros after it
 unfoldable pub zero-padded : (n : ℕ) → List ℕ → List ℕ
@@ -24,13 +20,6 @@ filter-range p (suc n) x = cond (p x) (x ∷ filter-range p n (suc x)) (filter-r
 unfoldable pub count-if : (property : ℕ → Bool) → (left x : ℕ) → ℕ
 count-if p zero x = 0
 count-if p (suc n) x = cond (p x) 1 0 + count-if p n (suc x)
-
--- a list has exactly the numbers of which something holds, each once and ascending; they fit 32 bits, and there are so many
-pub record Enumerates (holds : (x : ℕ) → Type 0) (number : ℕ) (xs : List ℕ) : Type 0 where
-  pub exactly : (x : ℕ) → List·Memᴰ x xs ↔ holds x
-  pub ascending : Ascending xs
-  pub fits : (x : ℕ) → List·Memᴰ x xs → x < 2 ^ 32
-  pub counted : length xs ≡ number
 
 -- f(i), f(i + 1) and so on, as many as are left
 unfoldable pub tabulate : (f : ℕ → ℕ) → (left i : ℕ) → List ℕ
@@ -49,10 +38,3 @@ overwrite-front xs old = xs ++ drop (length xs) old
 -- the place after a list that is written into a buffer from a place on, as far as there are places
 abbrev pub place-after : (at : ℕ) → (xs old : List ℕ) → ℕ
 place-after at xs old = min (at + length xs) (max at (length old))
-
--- a list stands in a buffer: from the first place on, and every place after it is as it was
-pub record Buffer-correct (xs old new : List ℕ) : Type 0 where
-  pub places : length new ≡ length old
-  pub room : length xs ≤ length old
-  pub front : (i : ℕ) → i < length xs → getD new i 0 ≡ getD xs i 0
-  pub after : (i : ℕ) → length xs ≤ i → getD new i 0 ≡ getD old i 0

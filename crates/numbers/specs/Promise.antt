@@ -1,14 +1,15 @@
--- What is promised of the definitions that the promises of other crates cite. `Promised`, at the end, is all of it; proofs/Promises.antt proves it.
+-- What is promised of the definitions that the promises of other crates cite, and the statements on lists, buffers and divisors that those promises
+-- make. `Promised`, at the end, is all that holds here; proofs/Promises.antt proves it.
 -- Assumes nothing: these are statements.
 use mathlib.Core.Path.{_≡_}
-use mathlib.Core.List.{List, [], _∷_, _++_}
+use mathlib.Core.List.{List, [], _∷_, _++_, List·Memᴰ}
 use mathlib.Core.Logic.{_↔_}
-use Prim.Native.Nat.{ℕ, suc, _+_, _≤_, _<_}
+use Prim.Native.Nat.{ℕ, suc, _+_, _^_, _≤_, _<_, _∣_}
 use lib.IntN.{ℤ, pos, negsuc, _+ℤ_, _*ℤ_}
-use lib.ListN.{length}
+use lib.ListN.{length, getD}
 use Rattle.numbers.specs.Checklist.{Condition, Check, condition, conditions, first-failing, All-hold, Refused-by, Numbered, unless-refused}
 use Rattle.numbers.specs.Integers.{_modulo_}
-use Rattle.numbers.specs.Lists.{joined, overwrite-front, place-after, Buffer-correct}
+use Rattle.numbers.specs.Lists.{joined, overwrite-front, place-after}
 
 -- ---- refusals
 
@@ -17,7 +18,10 @@ pub record Conditions-correct : Type 1 where
   pub none : (n : ℕ) → Refused-by [] n → ⊥
   pub fails : (k n : ℕ) (P : Type 0) (cs : List Condition) → (P → ⊥) → Refused-by (condition k P ∷ cs) n ↔ (n ≡ k)
   pub passes : (k n : ℕ) (P : Type 0) (cs : List Condition) → P → Refused-by (condition k P ∷ cs) n ↔ Refused-by cs n
+  pub nothing-asked : All-hold []
   pub all-hold : (k : ℕ) (P : Type 0) (cs : List Condition) → All-hold (condition k P ∷ cs) ↔ (P × All-hold cs)
+  pub nothing-numbered : Numbered []
+  pub numbered : (k : ℕ) (P : Type 0) (cs : List Condition) → Numbered (condition k P ∷ cs) ↔ ((0 < k) × Numbered cs)
 
 -- a checklist answers 0 exactly where every condition holds, and a number exactly where that number refuses
 pub record Checklist-correct (cs : List Check) : Type 1 where
@@ -32,7 +36,32 @@ pub record Remainder-correct (z : ℤ) (M : ℕ) : Type 0 where
   pub in-range : 0 < M → z modulo M < M
   pub multiple : 0 < M → (k : ℤ) × (z ≡ pos (z modulo M) +ℤ k *ℤ pos M)
 
+-- ---- divisors
+
+-- what makes g the greatest common divisor: it divides both, and every common divisor divides it
+pub record Greatest-common-divisor (a b g : ℕ) : Type 0 where
+  pub divides-first : g ∣ a
+  pub divides-second : g ∣ b
+  pub greatest : (d : ℕ) → d ∣ a → d ∣ b → d ∣ g
+
+-- ---- lists
+
+-- a list has exactly the numbers of which something holds, each once and ascending; they fit 32 bits, and there are so many
+pub record Enumerates (holds : (x : ℕ) → Type 0) (number : ℕ) (xs : List ℕ) : Type 0 where
+  pub exactly : (x : ℕ) → List·Memᴰ x xs ↔ holds x
+  -- strictly: of two places the later one holds the larger number
+  pub ascending : (i j : ℕ) → i < j → j < length xs → getD xs i 0 < getD xs j 0
+  pub fits : (x : ℕ) → List·Memᴰ x xs → x < 2 ^ 32
+  pub counted : length xs ≡ number
+
 -- ---- buffers
+
+-- a list stands in a buffer: from the first place on, and every place after it is as it was
+pub record Buffer-correct (xs old new : List ℕ) : Type 0 where
+  pub places : length new ≡ length old
+  pub room : length xs ≤ length old
+  pub front : (i : ℕ) → i < length xs → getD new i 0 ≡ getD xs i 0
+  pub after : (i : ℕ) → length xs ≤ i → getD new i 0 ≡ getD old i 0
 
 -- a list over the front of a buffer, with room for it; what a buffer holds after a call; the place after a list that is written from a place on; lists one
 -- after another

@@ -1,12 +1,12 @@
 -- The covering segment lies above the values by what the curve may still add to them, or by what it has taken from them, which is at most D: where
 -- a value is less than the window, the residue is less than the covering window. Assumes nothing.
 use mathlib.Core.Path.{_≡_, refl, _∙_, ap}
-use Prim.Native.Nat.{ℕ, suc, _+_, _-_, _*_, _%_, _≤_, _<_}
-use native.Mathlib.Nat.{mod-le, mul-le-mul-left, le-of-lt}
+use Prim.Native.Nat.{ℕ, suc, _+_, _-_, _*_, _%_, _≤_, _<_, min}
+use native.Mathlib.Nat.{mod-lt, mod-le, mul-le-mul-left, le-of-lt}
 use native.Mathlib.Omega.{arith}
 use lib.IntN.{ℤ, pos, negsuc, natAbs}
 use Rattle.numbers.proofs.Congruences.{Congruent, equals, flip, chain, plus, times, cancel, remainder, opposite, is-remainder}
-use Rattle.numbers.proofs.Integers.{gain, loss}
+use Rattle.numbers.proofs.Integers.{gain, loss, negated, mod-is}
 use Rattle.geometry.specs.Segment.{residue}
 use Rattle.geometry.proofs.Laws.{residue-lt, residue-congruent}
 use Rattle.parabola.specs.Parabola.{Parabola, triangle, value-at, spread, covering-step, start-over, covering-start, covering-window, covering}
@@ -94,17 +94,29 @@ module _ (p : Parabola) (positive : 0 < p .unit) (low : p .slope < p .unit) wher
         arc-most (loss (p .curve)) x l,
       )
 
+  twice-spread : 2 * spread p ≡ natAbs (p .curve) * (p .count * (p .count - 1))
+  unfolding spread
+  twice-spread = omega (arith, ap (λ (n : ℕ). natAbs (p .curve) * n) (triangle-twice (p .count)))
+
+  rising-start : (n : ℕ) → p .curve ≡ pos n → covering-start p ≡ (p .value + spread p) % p .unit
+  unfolding covering-start start-over
+  rising-start n e = rw e refl
+
   pub covering-correct : Covering-correct p
   unfolding covering-step covering-start covering-window
   covering-correct =
       record {
-        spread-is = unfold spread in omega (arith, ap (λ (n : ℕ). natAbs (p .curve) * n) (triangle-twice (p .count)));
-        unit = refl;
-        step = refl;
-        start-rising = λ n e. unfold start-over in rw e refl;
-        start-falling = λ n e. unfold start-over in rw e refl;
-        count = refl;
-        window = refl;
+        numbers = record {
+          unit = refl;
+          step = mod-is positive (negated (p .slope)) (mod-lt (p .unit - p .slope) positive) (opposite low);
+          start-rising = λ n D e d.
+              let s : spread p ≡ D = omega (arith, d, twice-spread, ap (λ (z : ℤ). natAbs z * (p .count * (p .count - 1))) e) in
+              rising-start n e ∙ ap (λ (k : ℕ). (p .value + k) % p .unit) s;
+          start-falling = λ n e. unfold start-over in rw e refl;
+          count = refl;
+          window = λ D d. ap (λ (k : ℕ). min (p .unit) (p .window + k)) (omega (arith, d, twice-spread));
+        };
+        spread-is = twice-spread;
         rising = rising;
         falling = falling;
         covers = covers;

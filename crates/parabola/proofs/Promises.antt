@@ -1,7 +1,8 @@
 -- All that is promised of a parabola. Assumes nothing.
 use mathlib.Core.Path.{refl}
 use Prim.Native.Nat.{_≤_, _<_}
-use Rattle.numbers.specs.Lists.{Enumerates, count-if}
+use Rattle.numbers.specs.Lists.{count-if}
+use Rattle.numbers.specs.Promise.{Enumerates}
 use Rattle.numbers.proofs.Selections.{less, enumerates}
 use Rattle.parabola.specs.Parabola.{Parabola, triangle, value-at, slope-at, second-difference, is-hard, hard-list, Hard}
 use Rattle.parabola.specs.Promise.{Values-correct, Promised}

@@ -3,9 +3,10 @@
 use mathlib.Core.Path.{_≡_}
 use mathlib.Core.List.{map}
 use Prim.Native.Nat.{ℕ, suc, _+_, _-_, _*_, _/_, _%_, _≤_, _<_, min}
-use lib.IntN.{pos, negsuc, natAbs, _+ℤ_, _*ℤ_}
+use lib.IntN.{ℤ, pos, negsuc, negℤ, natAbs, _+ℤ_, _*ℤ_}
 use Rattle.numbers.specs.Integers.{_modulo_}
-use Rattle.numbers.specs.Lists.{Enumerates, count-if, joined}
+use Rattle.numbers.specs.Lists.{count-if, joined}
+use Rattle.numbers.specs.Promise.{Enumerates}
 use Rattle.geometry.specs.Segment.{Segment, residue}
 use Rattle.geometry.specs.Segment as segment
 use Rattle.parabola.specs.Parabola.{Parabola, triangle, value-at, slope-at, second-difference, is-hard, hard-list, Hard, spread, covering, continued, part-start, part-count, part, In-range, Divisible, line}
@@ -33,17 +34,21 @@ pub record Values-correct (p : Parabola) : Type 0 where
 
 -- ---- the covering segment
 
--- the covering segment has the parabola's unit and count, the step (-c1) mod M, the start (c0 + D) mod M or, for a negative curve, c0, and the
--- smaller of M and w + D for its window. It lies above the values exactly by what the curve may still add to them, D at 0 and nothing at N, or by what
+-- a segment is the covering one by six numbers: it has the step (-c1) mod M, the start (c0 + D) mod M or, for a negative curve, c0, the same count, and
+-- the smaller of M and w + D for its window, where D is |s|·N(N-1)/2; that is doubled, so that nothing is halved
+pub record Covers-by (M c0 c1 : ℕ) (s : ℤ) (N w : ℕ) (segment : Segment) : Type 0 where
+  pub unit : segment .unit ≡ M
+  pub step : segment .step ≡ negℤ (pos c1) modulo M
+  pub start-rising : (n D : ℕ) → s ≡ pos n → 2 * D ≡ n * (N * (N - 1)) → segment .start ≡ (c0 + D) % M
+  pub start-falling : (n : ℕ) → s ≡ negsuc n → segment .start ≡ c0
+  pub count : segment .count ≡ N
+  pub window : (D : ℕ) → 2 * D ≡ natAbs s * (N * (N - 1)) → segment .window ≡ min M (w + D)
+
+-- the covering segment of a parabola. It lies above the values exactly by what the curve may still add to them, D at 0 and nothing at N, or by what
 -- it has taken from them, nothing at 0 and D at N. Wherever a value below N is less than the window, the residue is less than the covering window
 pub record Covering-correct (p : Parabola) : Type 0 where
-  pub spread-is : spread p + spread p ≡ natAbs (p .curve) * (p .count * (p .count - 1))
-  pub unit : covering p .unit ≡ p .unit
-  pub step : covering p .step ≡ (p .unit - p .slope) % p .unit
-  pub start-rising : (n : ℕ) → p .curve ≡ pos n → covering p .start ≡ (p .value + spread p) % p .unit
-  pub start-falling : (n : ℕ) → p .curve ≡ negsuc n → covering p .start ≡ p .value
-  pub count : covering p .count ≡ p .count
-  pub window : covering p .window ≡ min (p .unit) (p .window + spread p)
+  pub numbers : Covers-by (p .unit) (p .value) (p .slope) (p .curve) (p .count) (p .window) (covering p)
+  pub spread-is : 2 * spread p ≡ natAbs (p .curve) * (p .count * (p .count - 1))
   pub rising : (n : ℕ) → p .curve ≡ pos n → (x : ℕ) → x ≤ p .count
       → residue (covering p) x ≡ (value-at p x + (spread p - n * triangle x)) % p .unit
   pub falling : (n : ℕ) → p .curve ≡ negsuc n → (x : ℕ) → residue (covering p) x ≡ (value-at p x + suc n * triangle x) % p .unit

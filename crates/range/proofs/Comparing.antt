@@ -11,8 +11,7 @@ use native.Mathlib.Omega.{arith}
 use lib.ListN.{length, getD, drop, length-drop}
 use lib.Seq.{drop-cons}
 use borrow.Author.Tests.{lt-ltb, le-ltb}
-use Rattle.numbers.specs.Lists.{Ascending}
-use Rattle.numbers.proofs.Lists.{Ascending-from, ascending as ascends}
+use Rattle.numbers.proofs.Lists.{Ascending, Ascending-from, ascending as ascends}
 use Rattle.numbers.proofs.Lists.Ascending-from.{ascending-nil, ascending-cons}
 use Rattle.range.specs.Range.{ascending}
 

@@ -8,8 +8,7 @@ use native.Mathlib.Nat.{not-suc-le-zero, lt-of-not-le, le-of-suc-le-suc}
 use native.Mathlib.Omega.{arith}
 use lib.ListN.{length, getD, drop, length-drop}
 use lib.Seq.{getD-take, getD-drop, length-take-le}
-use Rattle.numbers.specs.Lists.{Ascending}
-use Rattle.numbers.proofs.Lists.{member-at, member-place}
+use Rattle.numbers.proofs.Lists.{Ascending, member-at, member-place}
 use Rattle.range.specs.Range.{below, start-of, count-of, range-of}
 use Rattle.range.specs.Promise.{Handed-back, Range-correct}
 use Rattle.range.proofs.Counting.{below-counted, below-passed, below-next}
@@ -53,8 +52,6 @@ handed-back lo hi xs =
       many = length-take-le (count-of lo hi xs) rest (omega (arith, within lo hi xs, length-drop (start-of lo hi xs) xs));
       in-order = λ i h. getD-take (count-of lo hi xs) rest i 0 h ∙ getD-drop (start-of lo hi xs) xs i 0;
     }
-
--- ---- members stand at places
 
 -- ---- the range of a list that ascends strictly
 

@@ -2,16 +2,18 @@
 use mathlib.Core.List.{List}
 use mathlib.Core.Logic.{⊎-elim}
 use mathlib.Mathlib.Data.Bool.Basic.{dichotomy}
-use Prim.Native.Nat.{ℕ}
-use Rattle.numbers.specs.Lists.{Ascending}
+use Prim.Native.Nat.{ℕ, _≤_, _<_}
+use native.Mathlib.Omega.{arith}
+use lib.ListN.{length, getD}
 use Rattle.range.specs.Range.{ascending}
 use Rattle.range.specs.Promise.{Promised, Empty-at-start}
 use Rattle.range.proofs.Comparing.{ascending-correct}
 use Rattle.range.proofs.Cases as cases
 use Rattle.range.proofs.Places.{handed-back, range-correct}
 
-unordered : (lo hi : ℕ) (xs : List ℕ) → (Ascending xs → ⊥) → Empty-at-start lo hi xs
-unordered lo hi xs n = ⊎-elim (cases.unordered lo hi xs) (λ e. absurd (n (ascending-correct xs .0 e))) (dichotomy (ascending xs))
+unordered : (lo hi : ℕ) (xs : List ℕ) (i j : ℕ) → i < j → j < length xs → getD xs j 0 ≤ getD xs i 0 → Empty-at-start lo hi xs
+unordered lo hi xs i j h l d =
+    ⊎-elim (cases.unordered lo hi xs) (λ e. absurd (omega (arith, d, ascending-correct xs .0 e i j h l))) (dichotomy (ascending xs))
 
 pub promised : Promised
 promised =
@@ -19,7 +21,7 @@ promised =
       ascending-correct = ascending-correct;
       within = cases.within;
       handed-back = handed-back;
-      stretches = λ lo hi whole part s. (s .holds, s .place);
+      stretches = λ lo hi whole part. (λ s. (s .holds, s .place), λ h. record { holds = h .0; place = h .1 });
       range = λ lo hi xs a l. range-correct (cases.ordered lo hi xs (ascending-correct xs .1 a) l) a;
       unordered = unordered;
       crossed = cases.crossed;

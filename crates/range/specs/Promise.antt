@@ -6,7 +6,6 @@ use mathlib.Core.Logic.{_↔_}
 use Prim.Native.Nat.{ℕ, _+_, _*_, _≤_, _<_}
 use lib.ListN.{length, getD}
 use denote.Ref.{RefT, ptr, now}
-use Rattle.numbers.specs.Lists.{Ascending}
 use Rattle.range.specs.Range.{ascending, below, start-of, count-of, place-of, range-of, Stretch}
 
 -- of a strictly ascending list and lo ≤ hi: before the range the entries are below lo, in it from lo on and below hi, after it from hi on
@@ -25,11 +24,11 @@ pub record Handed-back (lo hi : ℕ) (xs : List ℕ) : Type 0 where
   pub many : length (range-of lo hi xs) ≡ count-of lo hi xs
   pub in-order : (i : ℕ) → i < count-of lo hi xs → getD (range-of lo hi xs) i 0 ≡ getD xs (start-of lo hi xs + i) 0
 
--- a part of a list that is the stretch of the range holds the range, and lies in that list where the range starts
+-- a part of a list is the stretch of the range exactly where it holds the range and lies in that list where the range starts
 abbrev pub Stretches : Type 0
 Stretches =
     (lo hi : ℕ) (whole part : RefT (List ℕ)) → Stretch 4 whole part (start-of lo hi (now whole)) (count-of lo hi (now whole))
-    → (now part ≡ range-of lo hi (now whole)) × (ptr part ≡ (ptr whole .0, start-of lo hi (now whole) * 4 + ptr whole .1))
+    ↔ ((now part ≡ range-of lo hi (now whole)) × (ptr part ≡ (ptr whole .0, start-of lo hi (now whole) * 4 + ptr whole .1)))
 
 -- empty, at the list's start
 pub record Empty-at-start (lo hi : ℕ) (xs : List ℕ) : Type 0 where
@@ -38,10 +37,11 @@ pub record Empty-at-start (lo hi : ℕ) (xs : List ℕ) : Type 0 where
 
 pub record Promised : Type 0 where
   -- the test of each entry against the next one tells whether the list ascends strictly
-  pub ascending-correct : (xs : List ℕ) → (ascending xs ≡ true) ↔ Ascending xs
+  pub ascending-correct : (xs : List ℕ) → (ascending xs ≡ true) ↔ ((i j : ℕ) → i < j → j < length xs → getD xs i 0 < getD xs j 0)
   pub within : (lo hi : ℕ) (xs : List ℕ) → start-of lo hi xs + count-of lo hi xs ≤ length xs
   pub handed-back : (lo hi : ℕ) (xs : List ℕ) → Handed-back lo hi xs
   pub stretches : Stretches
-  pub range : (lo hi : ℕ) (xs : List ℕ) → Ascending xs → lo ≤ hi → Range-correct lo hi xs
-  pub unordered : (lo hi : ℕ) (xs : List ℕ) → (Ascending xs → ⊥) → Empty-at-start lo hi xs
+  pub range : (lo hi : ℕ) (xs : List ℕ) → ((i j : ℕ) → i < j → j < length xs → getD xs i 0 < getD xs j 0) → lo ≤ hi → Range-correct lo hi xs
+  -- two entries that are equal, or that descend, are enough for that
+  pub unordered : (lo hi : ℕ) (xs : List ℕ) (i j : ℕ) → i < j → j < length xs → getD xs j 0 ≤ getD xs i 0 → Empty-at-start lo hi xs
   pub crossed : (lo hi : ℕ) (xs : List ℕ) → hi < lo → Empty-at-start lo hi xs

@@ -1,21 +1,22 @@
 -- What either search answers: a refusal, or what its state shows at the end. Assumes nothing.
 use mathlib.Core.Path.{_≡_, refl, sym, _∙_, ap}
 use mathlib.Core.Logic.{_↔_}
-use Prim.Native.Nat.{ℕ, zero, suc}
+use Prim.Native.Nat.{ℕ, zero, suc, _^_, _≤_}
 use native.Mathlib.Omega.{arith}
 use Rattle.numbers.proofs.Checklists.{accepts, refuses}
 use Rattle.expansion.specs.Reached.{Search}
 use Rattle.expansion.specs.Reached.Search.{regular, fine}
-use Rattle.geometry.specs.Segment.{Segment, segment, residue}
-use Rattle.segment.specs.Accepted.{asked, checks, refusal, Accepted}
+use Rattle.geometry.specs.Segment.{Segment, residue}
+use Rattle.segment.specs.Accepted.{asked, checks, refusal, Searchable, Accepted}
 use Rattle.segment.specs.Search.{argument, distance, verdict-at}
 use Rattle.segment.specs.Answer.{regular-shown, fine-shown, regular-answer-with, fine-answer-with, regular-answer, fine-answer}
-use Rattle.segment.specs.State.{points, Ended}
+use Rattle.segment.specs.State.{points, state-after, Ended}
 use Rattle.segment.specs.Promise.{Refused-for}
 use Rattle.segment.specs.declared.state.State.{State}
 use Rattle.segment.specs.declared.RegularAnswer.the-variants as regular-variants
 use Rattle.segment.specs.declared.FineAnswer.the-variants as fine-variants
 use Rattle.segment.proofs.Minimum.{least-is}
+use Rattle.segment.proofs.Walking.{ended}
 
 -- ---- refusals
 
@@ -42,10 +43,17 @@ module _ (M a b N w : ℕ) where
 
 -- ---- the end of a search
 
--- the window plays no part in it
-pub any-window : {k : Search} (M a b N w : ℕ) {t : State} → Ended k (segment M a b N 0) t → Ended k (segment M a b N w) t
+-- of an accepted segment, after 29 steps; the window plays no part in them
+ends-so : (k : Search) (M a b N w : ℕ) {t : State} → Accepted (asked M a b N w) → t ≡ state-after k (asked M a b N 0) 29 → Ended k (asked M a b N w) t
 unfolding residue
-any-window M a b N w e = search
+ends-so k M a b N w {t} c e =
+    let searchable : Searchable (asked M a b N 0) = omega arith in
+    let end : Ended k (asked M a b N 0) t = rw e (ended k searchable) in
+    search
+
+-- its points fit a word
+pub points-few : (k : Search) (M a b N w : ℕ) {t : State} → Accepted (asked M a b N w) → t ≡ state-after k (asked M a b N 0) 29 → points t ≤ 2 ^ 62
+points-few k M a b N w c e = omega (arith, c .searchable .unit-within, ends-so k M a b N w c e .fits)
 
 module _ {k : Search} {s : Segment} {t : State} (e : Ended k s t) where
   argument-is : argument k s ≡ t .argument
@@ -57,7 +65,7 @@ module _ {k : Search} {s : Segment} {t : State} (e : Ended k s t) where
   distance-is = ap (residue s) argument-is ∙ sym (e .shows)
 
 module _ (M a b N w : ℕ) {t : State} (c : Accepted (asked M a b N w)) where
-  pub regular-answered : Ended regular (asked M a b N w) t
+  pub regular-answered : t ≡ state-after regular (asked M a b N 0) 29
       → regular-variants.Shown (record {
         count = points t;
         quotients = t .index;
@@ -66,9 +74,10 @@ module _ (M a b N w : ℕ) {t : State} (c : Accepted (asked M a b N w)) where
         verdict = verdict-at (t .distance) w;
       }) ≡ regular-answer M a b N w
   unfolding regular-answer regular-answer-with regular-shown
-  regular-answered e = rw (accepted (asked M a b N w) .1 c, e .label, argument-is e, distance-is e)
+  regular-answered e =
+      let end = ends-so regular M a b N w c e in rw (accepted (asked M a b N w) .1 c, end .label, argument-is end, distance-is end)
 
-  pub fine-answered : Ended fine (asked M a b N w) t
+  pub fine-answered : t ≡ state-after fine (asked M a b N 0) 29
       → fine-variants.Shown (record {
         count = points t;
         index = t .index;
@@ -78,4 +87,5 @@ module _ (M a b N w : ℕ) {t : State} (c : Accepted (asked M a b N w)) where
         verdict = verdict-at (t .distance) w;
       }) ≡ fine-answer M a b N w
   unfolding fine-answer fine-answer-with fine-shown
-  fine-answered e = rw (accepted (asked M a b N w) .1 c, e .label, argument-is e, distance-is e)
+  fine-answered e =
+      let end = ends-so fine M a b N w c e in rw (accepted (asked M a b N w) .1 c, end .label, argument-is end, distance-is end)

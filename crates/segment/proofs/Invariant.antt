@@ -11,7 +11,7 @@ use native.Mathlib.Omega.{arith}
 use borrow.Author.Tests.{le-leb, lt-leb, eq-eqb, ne-eqb}
 use Rattle.numbers.proofs.Fibonacci.{fib, fib-zero, fib-one, fib-mono, fib-31}
 use Rattle.expansion.specs.Configurations.{configuration}
-use Rattle.expansion.specs.Reached.{Search, reached-from}
+use Rattle.expansion.specs.Reached.{Search, reached, reached-from}
 use Rattle.expansion.proofs.Laws.{one-reached, rows-reached, row-reached}
 use Rattle.geometry.specs.Segment.{Segment}
 use Rattle.geometry.specs.TwoLength.{Position}
@@ -60,7 +60,9 @@ pub record Running (k : Search) (s : Segment) (odd : Bool) (t : State) : Type 0 
   pub holds : State-holds s odd t
   pub falls : t .short < t .long
   pub below : points t < s .count
-  pub to-go : reached-in k s ≡ reached-from k (s .count) (t .index) (t .long) (t .short) (t .shorts) (t .longs)
+  pub part-is : t .part ≡ 0
+  -- whatever the count, as long as it is not below the points: so that this is one of the search's configurations
+  pub to-go : (n : ℕ) → points t ≤ n → reached k (s .unit) (s .step) n ≡ reached-from k n (t .index) (t .long) (t .short) (t .shorts) (t .longs)
   pub grown : fib (suc (t .index)) ≤ t .longs
   pub grown-before : fib (t .index) ≤ t .shorts
 
@@ -107,7 +109,8 @@ module _ (k : Search) (s : Segment) (a : Searchable s) where
         holds = first-position h (a .step-below) (a .start-below);
         falls = a .step-below;
         below = omega arith;
-        to-go = rows-reached k (s .unit) (s .step) (s .count) (a .step-below) h;
+        part-is = refl;
+        to-go = λ n _. rows-reached k (s .unit) (s .step) n (a .step-below) h;
         grown = omega (arith, fib-one);
         grown-before = omega (arith, fib-zero);
       }

@@ -3,6 +3,7 @@ mod Advancing
 mod Rows
 mod Invariant
 mod Steps
+mod Walking
 mod Answers
 mod Showing
 pub mod Laws

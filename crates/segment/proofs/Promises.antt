@@ -18,6 +18,7 @@ use Rattle.segment.specs.declared.Verdict.the-variants.{Clear}
 use Rattle.segment.specs.declared.RegularAnswer.the-variants as regular-variants
 use Rattle.segment.specs.declared.FineAnswer.the-variants as fine-variants
 use Rattle.segment.proofs.Answers.{accepted, refused-for, regular-refused, fine-refused}
+use Rattle.segment.proofs.Walking.{steps-correct}
 use Rattle.segment.proofs.Showing.{argument-below, distance-least, cleared-none, verdict-iff, shown-correct}
 
 -- what the expansion promises of the searches of an accepted segment
@@ -131,11 +132,13 @@ promised =
       residues = λ s c. geometry.promised .residues s (c .searchable .step-below) (c .searchable .start-below);
       asked-is = λ M a b N w. refl;
       accepted = λ M a b N w. accepted (asked M a b N w);
+      accepted-is = λ M a b N w. (λ c. omega arith, λ h. omega arith);
       refused = λ M a b N w. refused-for (asked M a b N w);
       regular-answers = regular-answers;
       fine-answers = fine-answers;
       regular-refused = regular-refuses;
       fine-refused = fine-refuses;
+      steps = λ k s c. steps-correct k (c .searchable);
       smaller = smaller;
       no-more = no-more;
       verdicts = verdicts;

@@ -11,7 +11,7 @@ use borrow.Author.Tests.{leb-true, leb-false, eq-eqb, ne-eqb}
 use Rattle.numbers.proofs.Remainders.{quotient-positive}
 use Rattle.numbers.proofs.Fibonacci.{fib-next}
 use Rattle.expansion.specs.Configurations.{Configuration, configuration}
-use Rattle.expansion.specs.Reached.{Search, reached-from}
+use Rattle.expansion.specs.Reached.{Search, reached, reached-from}
 use Rattle.expansion.specs.Reached.Search.{regular, fine}
 use Rattle.expansion.proofs.Laws.{relabelled, row-reached, regular-on, regular-period, fine-part, fine-on}
 use Rattle.geometry.specs.Segment.{Segment}
@@ -22,9 +22,9 @@ use Rattle.segment.specs.declared.state.State.{State}
 use Rattle.segment.proofs.Rows.{cuts-exact, cuts-inexact, rest-inexact, ends-inexact, leaves-some}
 use Rattle.segment.proofs.Invariant.{State-holds, points-fit, cut-holds, ended-at, Running, Search-invariant, ends-here, runs, row-few}
 
--- what is still to be reached from the row after t's
-abbrev after-row : Search → Segment → State → Configuration
-after-row k s t = reached-from k (s .count) (suc (t .index)) (t .short) (t .long % t .short) (t .longs) (t .shorts + t .long / t .short * t .longs)
+-- what is still to be reached for n points from the row after t's
+abbrev after-row : Search → (n : ℕ) → State → Configuration
+after-row k n t = reached-from k n (suc (t .index)) (t .short) (t .long % t .short) (t .longs) (t .shorts + t .long / t .short * t .longs)
 
 module _ {k : Search} {s : Segment} {odd : Bool} {t : State} (r : Running k s odd t) where
   positive : 0 < t .short
@@ -39,6 +39,17 @@ module _ {k : Search} {s : Segment} {odd : Bool} {t : State} (r : Running k s od
 
   all-holds : State-holds s odd (cut-state odd (all-cuts t) t)
   all-holds = cut-holds s odd t (r .holds) (all-cuts t) all-left
+
+  -- what is reached
+  go-here : reached-in k s ≡ reached-from k (s .count) (t .index) (t .long) (t .short) (t .shorts) (t .longs)
+  go-here = r .to-go (s .count) (le-of-lt (r .below))
+
+  -- and there is one cut at least, which makes more points
+  all-some : 1 ≤ all-cuts t
+  all-some = quotient-positive (t .long - 1) (t .short) positive (omega (arith, r .falls))
+
+  all-grow : points t < t .shorts + all-cuts t * t .longs + t .longs
+  all-grow = omega (arith, mul-le-mul-right (t .longs) all-some, longs-positive (r .holds .lengths) (r .falls))
 
   -- what the code asks for a step
   pub unreached : Unreached (s .count) t
@@ -65,31 +76,35 @@ module _ {k : Search} {s : Segment} {odd : Bool} {t : State} (r : Running k s od
 
   -- ---- on to the next row, where that is what is still to go
 
-  module _ (h : 0 < t .long % t .short) (go : reached-in k s ≡ after-row k s t) where
-    to-go : reached-in k s
-        ≡ reached-from k (s .count) (suc (t .index)) (t .short) (t .long - all-cuts t * t .short) (t .longs) (t .shorts + all-cuts t * t .longs)
-    to-go = rw (rest-inexact t positive h, cuts-inexact t positive h) go
+  module _ (h : 0 < t .long % t .short) where
+    to-go : (n : ℕ) → reached k (s .unit) (s .step) n ≡ after-row k n t
+        → reached k (s .unit) (s .step) n
+        ≡ reached-from k n (suc (t .index)) (t .short) (t .long - all-cuts t * t .short) (t .longs) (t .shorts + all-cuts t * t .longs)
+    to-go n go = rw (rest-inexact t positive h, cuts-inexact t positive h) go
 
     rest-falls : t .long - all-cuts t * t .short < t .short
     rest-falls = omega (arith, rest-inexact t positive h, mod-lt (t .long) positive)
 
     -- the first configuration of that row is enough
-    next-reached : ends (s .count) t ≡ true → reached-in k s ≡ configuration (t .shorts + all-cuts t * t .longs + t .longs) (suc (t .index)) 0
+    next-reached : reached-in k s ≡ after-row k (s .count) t → ends (s .count) t ≡ true
+        → reached-in k s ≡ configuration (t .shorts + all-cuts t * t .longs + t .longs) (suc (t .index)) 0
     unfolding cut-state
-    next-reached e =
-        to-go
+    next-reached go e =
+        to-go (s .count) go
         ∙ row-reached k _ _ _ _ _ _ rest-falls (short-positive (turned all-holds .lengths)) (leb-true _ _ (sym (ends-inexact t positive h (s .count)) ∙ e))
 
     -- or the search goes on from it
-    next-running : ends (s .count) t ≡ false → Running k s (not odd) (regular-next odd (s .count) t)
+    next-running : ((n : ℕ) → t .shorts + all-cuts t * t .longs + t .longs ≤ n → reached k (s .unit) (s .step) n ≡ after-row k n t)
+        → ends (s .count) t ≡ false → Running k s (not odd) (regular-next odd (s .count) t)
     unfolding regular-next cut-state
-    next-running e =
+    next-running go e =
         record {
           searchable = r .searchable;
           holds = turned all-holds;
           falls = rest-falls;
           below = passed h e;
-          to-go = to-go;
+          part-is = refl;
+          to-go = λ n l. to-go n (go n l);
           grown =
               omega (
                 arith,
@@ -106,14 +121,15 @@ pub regular-step : {s : Segment} {odd : Bool} {t t′ : State} → Running regul
     → Search-invariant regular s (not odd) t′
 unfolding regular-next cut-state
 regular-step {s} {odd} {t} r e =
-    let on = r .to-go ∙ regular-on _ _ _ _ _ _ (r .falls) (positive r) (r .below) in
+    let on : (n : ℕ) → points t < n → reached regular (s .unit) (s .step) n ≡ after-row regular n t
+    = λ n l. r .to-go n (le-of-lt l) ∙ regular-on _ _ _ _ _ _ (r .falls) (positive r) l in
     rw e (record {
       ended = λ e. ended-at _ (turned (all-holds r)) (⊎-elim
-          (λ z. r .to-go ∙ regular-period _ _ _ _ _ _ (r .falls) (positive r) (r .below) z
+          (λ z. go-here r ∙ regular-period _ _ _ _ _ _ (r .falls) (positive r) (r .below) z
           ∙ relabelled (omega (arith, ap (λ (n : ℕ). n * t .longs) (cuts-exact t (positive r) (falls r) z))) refl refl)
-          (λ h. next-reached r h on e)
+          (λ h. next-reached r h (on (s .count) (r .below)) e)
           (eq-zero-or-pos (t .long % t .short)));
-      running = λ e. next-running r (leaves-some t (positive r) (falls r) (s .count) e) on e;
+      running = λ e. next-running r (leaves-some t (positive r) (falls r) (s .count) e) (λ n l. on n (omega (arith, all-grow r))) e;
     })
 
 -- ---- the fine search
@@ -143,14 +159,16 @@ module _ {s : Segment} {odd : Bool} {t : State} (r : Running fine s odd t) where
       let e : cuts ≡ cuts-to (s .count) t = omega arith in
       omega (arith, lt-div-mul-add {a = s .count - t .shorts - 1} (unreached r .longs-positive), ap (λ (i : ℕ). i * t .longs) e)
 
-  on-fine : t .shorts + quotient t * t .longs < s .count → 0 < t .long % t .short → reached-in fine s ≡ after-row fine s t
-  on-fine l h = r .to-go ∙ fine-on _ _ _ _ _ _ (r .falls) (positive r) l h
+  on-fine : 0 < t .long % t .short → (n : ℕ) → t .shorts + quotient t * t .longs < n → reached fine (s .unit) (s .step) n ≡ after-row fine n t
+  on-fine h n l =
+      let g = mul-le-mul-right (t .longs) (quotient-positive (t .long) (t .short) (positive r) (falls r)) in
+      r .to-go n (omega (arith, g, l)) ∙ fine-on _ _ _ _ _ _ (r .falls) (positive r) l h
 
   -- the whole row, where they are as many as the quotient
   whole-reached : cuts ≡ quotient t → ends (s .count) t ≡ true → reached-in fine s ≡ configuration (t .longs + (t .shorts + cuts * t .longs)) (t .index + 1) 0
   whole-reached q e =
       ⊎-elim (λ z. absurd (omega (arith, min-le-right (cuts-to (s .count) t) (all-cuts t), cuts-exact t (positive r) (falls r) z)))
-      (λ h. next-reached r h (on-fine (rw q at before-below) h) e
+      (λ h. next-reached r h (on-fine h (s .count) (rw q at before-below)) e
       ∙ relabelled (omega (arith, ap (λ (i : ℕ). i * t .longs) (q ∙ sym (cuts-inexact t (positive r) h)))) (omega arith) refl)
       (eq-zero-or-pos (t .long % t .short))
 
@@ -163,7 +181,7 @@ module _ {s : Segment} {odd : Bool} {t : State} (r : Running fine s odd t) where
       (omega arith, by-cases (decLt cuts (all-cuts t)) (λ l. inl (enough l)) (λ l. inr (omega arith, z))))
       (λ h. let l : cuts < all-cuts t = omega (arith, cuts-inexact t (positive r) h) in (omega (arith, cuts-inexact t (positive r) h), inl (enough l)))
       (eq-zero-or-pos (t .long % t .short)) in
-      r .to-go ∙ fine-part _ _ _ _ _ _ (r .falls) (positive r) cuts (last .0) (λ _. before-below) (last .1) ∙ relabelled (omega arith) (omega arith) refl
+      go-here r ∙ fine-part _ _ _ _ _ _ (r .falls) (positive r) cuts (last .0) (λ _. before-below) (last .1) ∙ relabelled (omega arith) (omega arith) refl
 
   pub fine-step : {t′ : State} → t′ ≡ fine-next odd (s .count) t → Search-invariant fine s (not odd) t′
   unfolding fine-next
@@ -172,13 +190,34 @@ module _ {s : Segment} {odd : Bool} {t : State} (r : Running fine s odd t) where
       by : (b : Bool) → ends (s .count) t ≡ b → Search-invariant fine s (not odd) (fine-next odd (s .count) t)
       by false e =
           let h = leaves-some t (positive r) (falls r) (s .count) e in
-          let l : t .shorts + quotient t * t .longs < s .count
-          = omega (arith, passed r h e, ap (λ (i : ℕ). i * t .longs) (cuts-inexact t (positive r) h)) in
-          rw e (runs (next-running r h (on-fine l h) e) (unfold regular-next in e))
+          let q = ap (λ (i : ℕ). i * t .longs) (cuts-inexact t (positive r) h) in
+          let on : (n : ℕ) → t .shorts + all-cuts t * t .longs + t .longs ≤ n → reached fine (s .unit) (s .step) n ≡ after-row fine n t
+          = λ n l. on-fine h n (omega (arith, q, unreached r .longs-positive)) in
+          rw e (runs (next-running r h on e) (unfold regular-next in e))
       by true e =
           rw e
           (by-cases (ℕ-discrete cuts (quotient t)) (λ q. rw (eq-eqb cuts (quotient t) q) (ends-here (at-finish true (whole-reached q e)) refl))
           (λ n. rw (ne-eqb cuts (quotient t) n) (ends-here (at-finish false (part-reached n)) refl)))
+
+-- ---- a step makes more points
+
+pub regular-grows : {s : Segment} {odd : Bool} {t : State} → Running regular s odd t → points t < points (regular-next odd (s .count) t)
+unfolding regular-next cut-state
+regular-grows r = all-grow r
+
+pub fine-grows : {s : Segment} {odd : Bool} {t : State} → Running fine s odd t → points t < points (fine-next odd (s .count) t)
+unfolding fine-next
+fine-grows {s} {odd} {t} r = by (ends (s .count) t) refl
+  where
+    some : 1 ≤ last-cuts (s .count) t
+    some =
+        let u = unreached r in
+        omega (arith, all-some r, quotient-positive (s .count - t .shorts - 1) (t .longs) (u .longs-positive) (omega (arith, u .below)))
+
+    by : (b : Bool) → ends (s .count) t ≡ b → points t < points (fine-next odd (s .count) t)
+    by true e =
+        rw e (unfold cut-state in omega (arith, mul-le-mul-right (t .longs) some, unreached r .longs-positive))
+    by false e = rw e (unfold regular-next cut-state in all-grow r)
 
 -- ---- the index: a step that does not end the search goes one row on
 

@@ -1,14 +1,15 @@
 -- What is promised of both searches (the third demand), with the letters of document 01: M the modulus, a the step, b the start, N the count,
 -- w the window, P the period. `Promised`, at the end, is all of it; proofs/Promises.antt proves it. Assumes nothing: these are statements.
 use mathlib.Core.Path.{_≡_}
-use mathlib.Core.List.{List, [], _∷_}
+use mathlib.Core.Bool.{true, false}
+use mathlib.Core.List.{List, [], _∷_, List·Memᴰ}
 use mathlib.Core.Logic.{_↔_}
-use Prim.Native.Nat.{ℕ, suc, _^_, _≤_, _<_}
+use Prim.Native.Nat.{ℕ, suc, _+_, _^_, _≤_, _<_}
 use Rattle.numbers.specs.Checklist.{Condition, condition, Refused-by}
 use Rattle.expansion.specs.Rows.{period}
 use Rattle.expansion.specs.Configurations.{Configuration, configuration}
 use Rattle.expansion.specs.Configurations as expansion
-use Rattle.expansion.specs.Reached.{Search}
+use Rattle.expansion.specs.Reached.{Search, configurations-of, reached}
 use Rattle.expansion.specs.Reached.Search.{regular, fine}
 use Rattle.expansion.specs.Promise.{Reached-correct}
 use Rattle.geometry.specs.Segment.{Segment, residue, Hard}
@@ -16,6 +17,8 @@ use Rattle.geometry.specs.Promise.{Residues-correct}
 use Rattle.segment.specs.Accepted.{asked, refusal, Accepted}
 use Rattle.segment.specs.Search.{verdict, distance}
 use Rattle.segment.specs.Answer.{regular-answer, fine-answer}
+use Rattle.segment.specs.State.{next, odd-after, state-after}
+use Rattle.segment.specs.declared.state.State.{State}
 use Rattle.segment.specs.declared.Verdict.{Verdict}
 use Rattle.segment.specs.declared.Verdict.the-variants.{Clear, Possible}
 use Rattle.segment.specs.declared.Regular.{Regular}
@@ -70,6 +73,30 @@ Fine-answer-correct s (fine-variants.Shown f) =
     Accepted s
     × Shown-correct (expansion.fine (s .unit) (s .step)) s (configuration (f .count) (f .index) (f .part)) (f .distance) (f .argument) (f .verdict)
 
+-- ---- the steps
+
+-- where a search stands: at one of its configurations, with the one argument of least residue below that count, and with that residue
+pub record Stands (k : Search) (s : Segment) (t : State) : Type 0 where
+  pub among : List·Memᴰ (configuration (t .longs + t .shorts) (t .index) (t .part)) (configurations-of k (s .unit) (s .step))
+  pub below-count : t .argument < t .longs + t .shorts
+  pub residue-is : residue s (t .argument) ≡ t .distance
+  pub unique : (x : ℕ) → x < t .longs + t .shorts → (x ≡ t .argument → ⊥) → t .distance < residue s x
+
+-- the steps of a search: from one of its configurations to a later one, to the one that it reaches, within 29. While it is not done, the count of that
+-- one is not enough; a step that does not end the search draws one quotient, and so does every step of the regular one
+pub record Steps-correct (k : Search) (s : Segment) : Type 0 where
+  pub stands : (n : ℕ) → Stands k s (state-after k s n)
+  pub begins-at-one : state-after k s 0 .longs + state-after k s 0 .shorts ≡ 1
+  pub step-is : (n : ℕ) → state-after k s n .done ≡ false → state-after k s (suc n) ≡ next k (odd-after n) (s .count) (state-after k s n)
+  pub later : (n : ℕ) → state-after k s n .done ≡ false
+      → state-after k s n .longs + state-after k s n .shorts < state-after k s (suc n) .longs + state-after k s (suc n) .shorts
+  pub not-enough : (n : ℕ) → state-after k s n .done ≡ false → state-after k s n .longs + state-after k s n .shorts < s .count
+  pub drawn : (n : ℕ) → state-after k s n .done ≡ false → state-after k s n .index ≡ n
+  pub one-quotient : (n : ℕ) → k ≡ regular → state-after k s n .done ≡ false → state-after k s (suc n) .index ≡ suc n
+  pub reaches : (n : ℕ) → state-after k s n .done ≡ true
+      → configuration (state-after k s n .longs + state-after k s n .shorts) (state-after k s n .index) (state-after k s n .part) ≡ reached k (s .unit) (s .step) (s .count)
+  pub within-29 : state-after k s 29 .done ≡ true
+
 -- ---- one search beside another
 
 -- a segment is cleared by a search that answers clear for it
@@ -113,11 +140,16 @@ pub record Promised : Type 0 where
   -- the segment of a call has the call's numbers
   pub asked-is : (M a b N w : ℕ) → for-segment (λ s. asked M a b N w ≡ s) M a b N w
   pub accepted : (M a b N w : ℕ) → for-segment (λ s. (refusal s ≡ 0) ↔ Accepted s) M a b N w
+  -- a segment is accepted exactly where its five numbers are within 01's bounds
+  pub accepted-is : (M a b N w : ℕ)
+      → for-segment Accepted M a b N w
+      ↔ ((2 ≤ M) × (M ≤ 2 ^ 62) × (a < M) × (b < M) × (1 ≤ N) × (N ≤ 1048576) × (w ≤ M))
   pub refused : (M a b N w n : ℕ) → for-segment (λ s. (refusal s ≡ suc n) ↔ Refused-for s (suc n)) M a b N w
   pub regular-answers : (M a b N w : ℕ) → for-segment (λ s. Regular-answer-correct s (regular-answer M a b N w)) M a b N w
   pub fine-answers : (M a b N w : ℕ) → for-segment (λ s. Fine-answer-correct s (fine-answer M a b N w)) M a b N w
   pub regular-refused : (M a b N w n : ℕ) → for-segment (λ s. (regular-answer M a b N w ≡ regular-variants.Refused n) ↔ Refused-for s n) M a b N w
   pub fine-refused : (M a b N w n : ℕ) → for-segment (λ s. (fine-answer M a b N w ≡ fine-variants.Refused n) ↔ Refused-for s n) M a b N w
+  pub steps : (k : Search) (s : Segment) → Accepted s → Steps-correct k s
   pub smaller : Smaller-cleared
   pub no-more : Fine-reaches-no-more
   pub verdicts : (k : Search) (M a b N w : ℕ) → for-segment Accepted M a b N w → Verdicts-correct k M a b N w

@@ -1,11 +1,12 @@
 -- The steps of the searches as functions of numbers, for the contracts of the functions that take them, and what holds of the state in which a
 -- search ends. proofs/Invariant.antt and proofs/Steps.antt show what the steps are for. Assumes nothing: these are definitions.
 use mathlib.Core.Path.{_≡_}
-use mathlib.Core.Bool.{Bool, true, false, _||_, cond}
-use Prim.Native.Nat.{ℕ, suc, _+_, _-_, _*_, _/_, _^_, _≤_, _<_, min}
+use mathlib.Core.Bool.{Bool, true, false, not, _||_, cond}
+use Prim.Native.Nat.{ℕ, zero, suc, _+_, _-_, _*_, _/_, _^_, _≤_, _<_, min}
 use lib.Dec.{eqb, leb, ltb}
 use Rattle.expansion.specs.Configurations.{configuration}
 use Rattle.expansion.specs.Reached.{Search}
+use Rattle.expansion.specs.Reached.Search.{regular, fine}
 use Rattle.geometry.specs.Segment.{Segment, residue}
 use Rattle.geometry.specs.TwoLength.{Least}
 use Rattle.segment.specs.Search.{reached-in}
@@ -168,6 +169,23 @@ finished whole s =
 unfoldable pub fine-next : (odd : Bool) → (N : ℕ) → State → State
 fine-next odd N s =
     cond (ends N s) (finished (eqb (last-cuts N s) (quotient s)) (cut-state odd (last-cuts N s) s)) (regular-next odd N s)
+
+-- ---- one step after another
+
+-- the step of a search
+unfoldable pub next : Search → (odd : Bool) → (N : ℕ) → State → State
+next regular odd N s = regular-next odd N s
+next fine odd N s = fine-next odd N s
+
+-- even and odd rows take turns: whether the row after so many steps is odd
+unfoldable pub odd-after : (steps : ℕ) → Bool
+odd-after zero = false
+odd-after (suc n) = not (odd-after n)
+
+-- where a search stands after so many steps; once it is done, it stays there
+unfoldable pub state-after : Search → Segment → (steps : ℕ) → State
+state-after k s zero = first-state (s .unit) (s .step) (s .start) (s .count)
+state-after k s (suc n) = cond (state-after k s n .done) (state-after k s n) (next k (odd-after n) (s .count) (state-after k s n))
 
 -- ---- the end
 

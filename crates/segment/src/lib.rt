@@ -5,7 +5,7 @@ ghost use Rattle.expansion.specs.Reached.Search.{regular, fine};
 ghost use Rattle.segment.specs.Accepted.{asked, refusal, Searchable};
 ghost use Rattle.segment.specs.Search.{verdict-at};
 ghost use Rattle.segment.specs.Answer.{regular-answer, fine-answer};
-ghost use Rattle.segment.specs.State.{Ended};
+ghost use Rattle.segment.specs.State.{state-after};
 
 mod state;
 
@@ -123,7 +123,7 @@ pub fn refuse(modulus: u64, step: u64, start: u64, count: u64, window: u64) -> u
 // The state in which the regular search ends: an even and an odd row take turns, and the index tells the steps taken. The window plays no part.
 fn regular_end(modulus: u64, step: u64, start: u64, count: u64) -> State
     requires { ⌜ Searchable (asked modulus step start count 0) ⌝ }
-    ensures { λ r. ⌜ Ended regular (asked modulus step start count 0) r ⌝ }
+    ensures { λ r. ⌜ r ≡ state-after regular (asked modulus step start count 0) 29 ⌝ }
 {
     let mut state = first(modulus, step, start, count);
     if state.done {
@@ -146,7 +146,7 @@ fn regular_end(modulus: u64, step: u64, start: u64, count: u64) -> State
 // The same for the fine search.
 fn fine_end(modulus: u64, step: u64, start: u64, count: u64) -> State
     requires { ⌜ Searchable (asked modulus step start count 0) ⌝ }
-    ensures { λ r. ⌜ Ended fine (asked modulus step start count 0) r ⌝ }
+    ensures { λ r. ⌜ r ≡ state-after fine (asked modulus step start count 0) 29 ⌝ }
 {
     let mut state = first(modulus, step, start, count);
     if state.done {

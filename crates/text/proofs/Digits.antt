@@ -80,5 +80,6 @@ decimal-correct n =
       tells = written-tell n;
       unique = λ xs all front e. as-written xs all front ∙ ap decimal e;
       few = λ k h. few-digits k n h;
+      at-most-20 = λ h. few-digits 19 n (omega (arith, h));
       read-back = λ at rest h. number-reads at n rest h;
     }

@@ -1,44 +1,46 @@
 -- `segment::fine_end` meets its contract.
--- The loop's invariant: the search runs, and stands at an even row. The measure is what is left of the budget. Assumes nothing.
+-- The loop's invariant: the search is not done after so many steps, and stands at an even row. The measure is what is left of the budget. Assumes nothing.
 use mathlib.Core.Bool.{true, false}
 use Prim.Native.Nat.{_-_}
 use native.Mathlib.Omega.{arith}
 use borrow.Author.Needs.{needs}
 use Rattle.expansion.specs.Reached.Search.{fine}
 use Rattle.segment.specs.Accepted.{asked}
-use Rattle.segment.proofs.Invariant.{Running, begins, row-few}
-use Rattle.segment.proofs.Steps.{unreached, steppable, fine-step, fine-index}
+use Rattle.segment.specs.State.{next}
+use Rattle.segment.proofs.Invariant.{row-few}
+use Rattle.segment.proofs.Steps.{unreached, steppable, fine-index}
+use Rattle.segment.proofs.Walking.{At, first-runs, first-done, running, goes-on, is-done}
 use Rattle.segment.proofs.fine_end.Statement.{statement}
 use Rattle.segment.proofs.fine_end.Tie as tie
 
 abbrev Inv-loop : tie.InvT-loop
-Inv-loop modulus step start count _ state = Running fine (asked modulus step start count 0) false state
+Inv-loop modulus step start count _ state = At fine (asked modulus step start count 0) false state
 
 abbrev μ-loop : tie.MeasureT-loop
 μ-loop _ _ _ _ _ state = 29 - state .index
 
 done-at-first : tie.Need-returns Inv-loop μ-loop
-done-at-first c = begins fine _ (c .before .before .pre) (c .before .first .ensures) .ended (c .if1 .taken)
+done-at-first c = first-done fine (c .before .before .pre) (c .before .first .ensures) (c .if1 .taken)
 
 loop-holds : tie.Need-loop-holds Inv-loop μ-loop
-loop-holds c = begins fine _ (c .before .before .pre) (c .before .first .ensures) .running (c .if1 .left)
+loop-holds c = first-runs fine (c .before .before .pre) (c .before .first .ensures) (c .if1 .left)
 
 even-requires : tie.Need-fine-even-requires Inv-loop μ-loop
-even-requires c κs = let r = c .before .before .loop .inv in (steppable r, unreached r)
+even-requires c κs = let r = running (c .before .before .loop .inv) in (steppable r, unreached r)
 
 done-after-even : tie.Need-returns-2 Inv-loop μ-loop
-done-after-even c = fine-step (c .before .before .before .before .loop .inv) (c .before .fine-even .ensures) .ended (c .if3 .taken)
+done-after-even c = is-done (c .before .before .before .before .loop .inv) (unfold next in c .before .fine-even .ensures) (c .if3 .taken)
 
 -- the search runs on after the even row
 at-odd : (c : tie.Else3 Inv-loop μ-loop) → let a = c .before .before .before .before .before .before .before .args in
-    Running fine (asked (a .modulus) (a .step) (a .start) (a .count) 0) true (c .before .fine-even .result)
-at-odd c = fine-step (c .before .before .before .before .loop .inv) (c .before .fine-even .ensures) .running (c .if3 .left)
+    At fine (asked (a .modulus) (a .step) (a .start) (a .count) 0) true (c .before .fine-even .result)
+at-odd c = goes-on (c .before .before .before .before .loop .inv) (unfold next in c .before .fine-even .ensures) (c .if3 .left)
 
 odd-requires : tie.Need-fine-odd-requires Inv-loop μ-loop
-odd-requires c κs = let r = at-odd c in (steppable r, unreached r)
+odd-requires c κs = let r = running (at-odd c) in (steppable r, unreached r)
 
 done-after-odd : tie.Need-returns-3 Inv-loop μ-loop
-done-after-odd c = fine-step (at-odd (c .before .before)) (c .before .fine-odd .ensures) .ended (c .if4 .taken)
+done-after-odd c = is-done (at-odd (c .before .before)) (unfold next in c .before .fine-odd .ensures) (c .if4 .taken)
 
 loop-less : tie.Need-loop-less Inv-loop μ-loop
 loop-less c =
@@ -53,11 +55,11 @@ loop-less c =
     )
 
 loop-again : tie.Need-loop-again Inv-loop μ-loop
-loop-again c = fine-step (at-odd (c .before .before)) (c .before .fine-odd .ensures) .running (c .if4 .left)
+loop-again c = goes-on (at-odd (c .before .before)) (unfold next in c .before .fine-odd .ensures) (c .if4 .left)
 
 -- the budget is never spent
 out-of-reach : tie.Need-returns-4 Inv-loop μ-loop
-out-of-reach c = let h = row-few (c .before .before .loop .inv) in absurd (omega arith)
+out-of-reach c = let h = row-few (running (c .before .before .loop .inv)) in absurd (omega arith)
 
 pub fine-end-spec : {M : Type 1} → statement M
 fine-end-spec =

@@ -2,8 +2,9 @@
 use mathlib.Core.Path.{sym, _∙_}
 use native.Mathlib.Omega.{arith}
 use borrow.Author.Needs.{needs}
+use Rattle.expansion.specs.Reached.Search.{fine}
 use Rattle.segment.specs.Accepted.{asked, Accepted}
-use Rattle.segment.proofs.Answers.{accepted, any-window, fine-refused, fine-answered}
+use Rattle.segment.proofs.Answers.{accepted, points-few, fine-refused, fine-answered}
 use Rattle.segment.proofs.fine_search.Statement.{statement}
 use Rattle.segment.proofs.fine_search.Tie as tie
 
@@ -17,10 +18,16 @@ refused c = fine-refused _ _ _ _ _ _ (c .before .refuse .ensures) (c .if1 .taken
 fine-end-requires : tie.Need-fine-end-requires
 fine-end-requires c κs = let a = accepted-here c in omega arith
 
+points-fit : tie.Need-add-t9
+points-fit c =
+    let at-end = c .before in
+    let few = points-few fine _ _ _ _ _ (accepted-here (at-end .before)) (at-end .fine-end .ensures) in
+    search needs
+
 shown : tie.Need-returns-2
 shown c =
     let at-end = c .before .before in
-    rw (c .judge .ensures) (fine-answered _ _ _ _ _ (accepted-here (at-end .before)) (any-window _ _ _ _ _ (at-end .fine-end .ensures)))
+    rw (c .judge .ensures) (fine-answered _ _ _ _ _ (accepted-here (at-end .before)) (at-end .fine-end .ensures))
 
 pub fine-search-spec : {M : Type 1} → statement M
-fine-search-spec = tie.close (tie.spec (λ c κs. search needs) refused fine-end-requires (λ c. search needs) (λ c κs. search needs) shown)
+fine-search-spec = tie.close (tie.spec (λ c κs. search needs) refused fine-end-requires points-fit (λ c κs. search needs) shown)

@@ -2,8 +2,9 @@
 use mathlib.Core.Path.{sym, _∙_}
 use native.Mathlib.Omega.{arith}
 use borrow.Author.Needs.{needs}
+use Rattle.expansion.specs.Reached.Search.{regular}
 use Rattle.segment.specs.Accepted.{asked, Accepted}
-use Rattle.segment.proofs.Answers.{accepted, any-window, regular-refused, regular-answered}
+use Rattle.segment.proofs.Answers.{accepted, points-few, regular-refused, regular-answered}
 use Rattle.segment.proofs.regular_search.Statement.{statement}
 use Rattle.segment.proofs.regular_search.Tie as tie
 
@@ -17,10 +18,16 @@ refused c = regular-refused _ _ _ _ _ _ (c .before .refuse .ensures) (c .if1 .ta
 regular-end-requires : tie.Need-regular-end-requires
 regular-end-requires c κs = let a = accepted-here c in omega arith
 
+points-fit : tie.Need-add-t9
+points-fit c =
+    let at-end = c .before in
+    let few = points-few regular _ _ _ _ _ (accepted-here (at-end .before)) (at-end .regular-end .ensures) in
+    search needs
+
 shown : tie.Need-returns-2
 shown c =
     let at-end = c .before .before in
-    rw (c .judge .ensures) (regular-answered _ _ _ _ _ (accepted-here (at-end .before)) (any-window _ _ _ _ _ (at-end .regular-end .ensures)))
+    rw (c .judge .ensures) (regular-answered _ _ _ _ _ (accepted-here (at-end .before)) (at-end .regular-end .ensures))
 
 pub regular-search-spec : {M : Type 1} → statement M
-regular-search-spec = tie.close (tie.spec (λ c κs. search needs) refused regular-end-requires (λ c. search needs) (λ c κs. search needs) shown)
+regular-search-spec = tie.close (tie.spec (λ c κs. search needs) refused regular-end-requires points-fit (λ c κs. search needs) shown)
