@@ -1,6 +1,6 @@
-//! Scans of segments, searches of domains and ranges of lists against a reference written from document 01 alone, which goes
-//! through the arguments: every small domain, random and extreme ones, refusals, the settled examples, with canaries around the
-//! caller's memory.
+//! Scans of segments, searches of domains and ranges of lists against a reference written from document 01 alone, which lists by
+//! going through the arguments and judges by counting residues: every small domain, random and extreme ones, refusals, the settled
+//! examples, with canaries around the caller's memory.
 
 mod c_api;
 mod drawn;
@@ -12,10 +12,6 @@ use harness::{Lent, Random, Run, SEED};
 use reference::{Domain, Segment, LARGEST, LARGEST_CURVE, MOST};
 use std::collections::HashSet;
 use std::fmt;
-
-/// The arguments that most tests go through at most for the verdict of phase 1, and those that a few go through.
-const THROUGH: u64 = 1 << 14;
-const FAR_THROUGH: u64 = 1 << 22;
 
 /// Places for every argument of a small count.
 const PLENTY: usize = 40;
@@ -139,12 +135,13 @@ fn check_refused(input: &impl Listing) -> Result<(), String> {
     [0, 1, PLENTY].iter().try_for_each(|&places| check_places(input, places, &[], &NOTHING))
 }
 
-/// How many inputs were accepted, of those how many were compared in full (the arguments below the count that phase 1 reaches were
-/// gone through), and how many were refused; and what was answered.
+/// The domains searched and the segments scanned, each once whatever its windows; the windows, how many were refused, and what was
+/// answered.
 #[derive(Default)]
 struct Tally {
-    accepted: usize,
-    full: usize,
+    domains: HashSet<[u64; 5]>,
+    segments: HashSet<[u64; 4]>,
+    windows: usize,
     refused: usize,
     cleared: usize,
     clear_parts: usize,
@@ -154,8 +151,9 @@ struct Tally {
 
 impl Tally {
     fn add(&mut self, other: &Tally) {
-        self.accepted += other.accepted;
-        self.full += other.full;
+        self.domains.extend(&other.domains);
+        self.segments.extend(&other.segments);
+        self.windows += other.windows;
         self.refused += other.refused;
         self.cleared += other.cleared;
         self.clear_parts += other.clear_parts;
@@ -166,12 +164,13 @@ impl Tally {
 
 impl fmt::Display for Tally {
     fn fmt(&self, f: &mut fmt::Formatter) -> fmt::Result {
-        write!(f, "{} accepted, {} of them in full", self.accepted, self.full)?;
-        if self.cleared + self.clear_parts + self.scanned_parts != 0 {
-            write!(f, ", {} cleared", self.cleared)?;
-            write!(f, ", {} parts clear and {} scanned", self.clear_parts, self.scanned_parts)?;
+        let Tally { windows, cleared, clear_parts, scanned_parts, listed, .. } = self;
+        if self.domains.is_empty() {
+            write!(f, "{} segments, {windows} windows, {listed} listed", self.segments.len())?;
+        } else {
+            write!(f, "{} domains, {windows} windows, {cleared} cleared", self.domains.len())?;
+            write!(f, ", {clear_parts} parts clear and {scanned_parts} scanned, {listed} listed")?;
         }
-        write!(f, ", {} listed", self.listed)?;
         if self.refused != 0 {
             write!(f, "; {} refused", self.refused)?;
         }
@@ -179,39 +178,18 @@ impl fmt::Display for Tally {
     }
 }
 
-/// The verdict clear of the proved searches, which are compared with the reference in a program of their own.
-fn regular_clear(s: &Segment) -> bool {
-    let mut shown = [0; 5];
-    c_api::regular_search(s.modulus, s.step, s.start, s.count, s.window, &mut shown) == 0 && shown[4] == 1
-}
-
-fn fine_clear(s: &Segment) -> bool {
-    let mut shown = [0; 6];
-    c_api::fine_search(s.modulus, s.step, s.start, s.count, s.window, &mut shown) == 0 && shown[5] == 1
-}
-
-/// Compares a domain with the reference; goes through at most so many arguments for the verdict of phase 1, for which the proved
-/// regular search stands in where they are more.
-fn compare(domain: &Domain, through: u64, tally: &mut Tally) -> Result<(), String> {
+fn compare(domain: &Domain, tally: &mut Tally) -> Result<(), String> {
     if domain.refusal() != 0 {
         tally.refused += 1;
         return check_refused(domain);
     }
-    let (covering, parts) = (domain.covering(), domain.parts());
-    let reached = covering.regular_reached();
-    let full = reached.count <= through as u128;
-    let cleared = if full { covering.clear(&reached) } else { regular_clear(&covering) };
-    let (marks, list) = (domain.marks(cleared), domain.hard());
-    let agree = |(mark, part): (&u8, &Domain)| *mark == if fine_clear(&part.covering()) { 1 } else { 2 };
-    if cleared != regular_clear(&covering) || !cleared && !marks.iter().zip(&parts).all(agree) {
-        return domain.wrong("the proved searches of the covering segments answer otherwise");
-    }
+    let (cleared, marks, list) = (domain.cleared(), domain.marks(), domain.hard());
     if list.iter().any(|&x| marks[(x as u64 * 8 / domain.count) as usize] != 2) {
         return domain.wrong("hard where the reference clears");
     }
     check(domain, &list, &Shown { marks: &marks, numbers: &[cleared as u64, list.len() as u64] })?;
-    tally.accepted += 1;
-    tally.full += full as usize;
+    tally.domains.insert(domain.parabola());
+    tally.windows += 1;
     tally.cleared += cleared as usize;
     tally.clear_parts += marks.iter().filter(|&&mark| mark == 1).count();
     tally.scanned_parts += marks.iter().filter(|&&mark| mark == 2).count();
@@ -226,16 +204,16 @@ fn compare_scan(segment: &Segment, tally: &mut Tally) -> Result<(), String> {
     }
     let list = segment.hard();
     check(segment, &list, &Shown { marks: &[], numbers: &[list.len() as u64] })?;
-    tally.accepted += 1;
-    tally.full += 1;
+    tally.segments.insert(segment.line());
+    tally.windows += 1;
     tally.listed += list.len();
     Ok(())
 }
 
-fn all(through: u64, domains: impl IntoIterator<Item = Domain>) -> Result<Tally, String> {
+fn all(domains: impl IntoIterator<Item = Domain>) -> Result<Tally, String> {
     let mut tally = Tally::default();
     for domain in domains {
-        compare(&domain, through, &mut tally)?;
+        compare(&domain, &mut tally)?;
     }
     Ok(tally)
 }
@@ -251,7 +229,7 @@ fn all_scans(segments: impl IntoIterator<Item = Segment>) -> Result<Tally, Strin
 /// Compares so many random domains, made of their own seed.
 fn random_domains(own: u64, times: usize, make: impl Fn(&mut Random, usize) -> Domain) -> Result<Tally, String> {
     let mut random = Random(SEED + own);
-    all(THROUGH, (0..times).map(|i| make(&mut random, i)))
+    all((0..times).map(|i| make(&mut random, i)))
 }
 
 fn domain(modulus: u64, value: u64, slope: u64, curve: i64, count: u64, window: u64) -> Domain {
@@ -271,7 +249,7 @@ fn every_small_domain() -> Result<Tally, String> {
             }
         }
     }
-    all(THROUGH, domains)
+    all(domains)
 }
 
 fn random_small_moduli() -> Result<Tally, String> {
@@ -337,7 +315,7 @@ fn windows_where_a_verdict_changes() -> Result<Tally, String> {
         let of = if i % 3 == 0 { domain } else { one_of(random, &domain.parts()) };
         let covering = of.covering();
         let reached = if i % 3 == 0 { covering.regular_reached() } else { covering.fine_reached() };
-        let (least, _) = covering.least(0..reached.count.min(THROUGH as u128) as u64);
+        let (least, _) = covering.least_below(reached.count as u64);
         let clear = (least as i128 - of.deviation()).max(0) as u64;
         Domain { window: (clear + i as u64 % 2).min(modulus), ..domain }
     })
@@ -346,7 +324,7 @@ fn windows_where_a_verdict_changes() -> Result<Tally, String> {
 /// Slopes of the covering segment with which a regular search goes much farther than a fine one.
 fn far_regular_searches() -> Result<Tally, String> {
     random_domains(7, 4_000, |random, _| {
-        let (modulus, count) = (THROUGH - random.below(THROUGH - 1000), random_count(random, 16));
+        let (modulus, count) = (1000 + random.sized(LARGEST - 1000), random_count(random, 16));
         let near = random.sized(64);
         let slope = one_of(random, &[0, near, modulus - near, modulus / 2 + near, modulus / 3 + near]);
         Domain { slope, curve: signed(random, near % 3), ..somewhere(random, modulus, count) }
@@ -355,17 +333,14 @@ fn far_regular_searches() -> Result<Tally, String> {
 
 fn realistic_domains() -> Result<Tally, String> {
     let mut random = Random(SEED + 8);
-    all(
-        FAR_THROUGH,
-        (0..400).map(|i| {
-            let modulus = (1 << 60) - random.below(1 << 59);
-            let size = random.below([40, 1 << 14][i / 4 % 2]);
-            // From mostly cleared to some hard ones.
-            let window = random.below(modulus >> [29, 18, 14, 11][i % 4]);
-            let (value, slope) = (random.below(modulus), random.below(modulus));
-            domain(modulus, value, slope, signed(&mut random, size), 1 << 15, window)
-        }),
-    )
+    all((0..400).map(|i| {
+        let modulus = (1 << 60) - random.below(1 << 59);
+        let size = random.below([40, 1 << 14][i / 4 % 2]);
+        // From mostly cleared to some hard ones.
+        let window = random.below(modulus >> [29, 18, 14, 11][i % 4]);
+        let (value, slope) = (random.below(modulus), random.below(modulus));
+        domain(modulus, value, slope, signed(&mut random, size), 1 << 15, window)
+    }))
 }
 
 fn extreme_fields() -> Result<Tally, String> {
@@ -379,7 +354,7 @@ fn extreme_fields() -> Result<Tally, String> {
             }
         }
     }
-    all(THROUGH, domains)
+    all(domains)
 }
 
 /// Count 2^20 at the ends of the other fields, where the numbers are largest.
@@ -397,27 +372,24 @@ fn largest_count() -> Result<Tally, String> {
         let (value, slope) = (random.below(m - 57), random.below(m - 57));
         domains.push(domain(m - 57, value, slope, curve, MOST, window));
     }
-    all(FAR_THROUGH, domains)
+    all(domains)
 }
 
 fn random_fields_of_every_size() -> Result<Tally, String> {
     let mut random = Random(SEED + 9);
     let mut field = || random.next() >> random.below(64);
-    all(
-        THROUGH,
-        (0..60_000).map(|i| {
-            let curve = field() as i64;
-            let count = field() >> 50;
-            Domain {
-                modulus: field(),
-                value: field(),
-                slope: field(),
-                curve: if i % 2 == 0 { curve } else { curve >> 44 },
-                count: if i % 4 == 0 { count } else { count & !7 },
-                window: field(),
-            }
-        }),
-    )
+    all((0..60_000).map(|i| {
+        let curve = field() as i64;
+        let count = field() >> 50;
+        Domain {
+            modulus: field(),
+            value: field(),
+            slope: field(),
+            curve: if i % 2 == 0 { curve } else { curve >> 44 },
+            count: if i % 4 == 0 { count } else { count & !7 },
+            window: field(),
+        }
+    }))
 }
 
 /// Every set of the conditions 1 to 7 in conflict with each other: the lowest number wins. Beside another condition, 7 applies
@@ -437,7 +409,7 @@ fn every_set_of_refusals() -> Result<Tally, String> {
                     if count <= PLENTY as u64 {
                         sets.insert((domain.conflicts(), false));
                     }
-                    compare(&domain, THROUGH, &mut tally)?;
+                    compare(&domain, &mut tally)?;
                 }
             }
         }
@@ -475,7 +447,7 @@ fn settled_examples() -> Result<Tally, String> {
         let checked = check(&domain, list, &shown).and(check_places(&domain, 2 << 20, list, &shown));
         checked.map_err(|why| format!("{name}: {why}"))?;
     }
-    all(THROUGH, examples.map(|example| example.1))
+    all(examples.map(|example| example.1))
 }
 
 /// Domains whose verdict or marks would be others with another D: cleared or not, the marks and the list, by hand.
@@ -490,7 +462,7 @@ fn verdicts_by_spread() -> Result<Tally, String> {
     for (domain, cleared, marks, list) in examples {
         check(&domain, list, &Shown { marks: &marks, numbers: &[cleared, list.len() as u64] })?;
     }
-    all(THROUGH, examples.map(|example| example.0))
+    all(examples.map(|example| example.0))
 }
 
 /// Document 01's examples without a mark that concern domains.
@@ -511,7 +483,7 @@ fn settled_refusals() -> Result<Tally, String> {
             return domain.wrong(&format!("not {number}"));
         }
     }
-    all(THROUGH, refusals.map(|refusal| refusal.0))
+    all(refusals.map(|refusal| refusal.0))
 }
 
 fn every_small_scan() -> Result<Tally, String> {
@@ -529,7 +501,7 @@ fn every_small_scan() -> Result<Tally, String> {
 
 fn random_scans() -> Result<Tally, String> {
     let mut random = Random(SEED + 10);
-    all_scans((0..40_000).map(|i| {
+    all_scans((0..50_000).map(|i| {
         let modulus = 1 + random.sized(if i % 2 == 0 { LARGEST - 1 } else { 4096 });
         let (step, count) = (random.below(modulus), random.sized(if i % 32 == 0 { 1 << 13 } else { 256 }));
         let (start, window) = (random.below(modulus), window(&mut random, modulus, count));
@@ -726,13 +698,13 @@ fn main() {
         }
         sum
     });
-    run.count("parts of the reference", parts_of_the_reference());
+    run.reference("parts", parts_of_the_reference());
     run.count("every small range", every_small_range());
     run.count("random ranges", random_ranges());
     run.count("longest ranges", longest_ranges());
-    let enough = domains.full >= 80_000 && domains.cleared >= 10_000 && domains.clear_parts >= 50_000;
+    let enough = domains.domains.len() >= 100_000 && domains.cleared >= 10_000 && domains.clear_parts >= 50_000;
     run.count("as many domains as meant", if enough { Ok(domains) } else { Err(format!("only {domains}")) });
-    let enough = scans.accepted >= 40_000;
+    let enough = scans.segments.len() >= 40_000;
     run.count("as many scans as meant", if enough { Ok(scans) } else { Err(format!("only {scans}")) });
     run.end()
 }

@@ -145,18 +145,18 @@ fn settled_examples() -> Result<usize, String> {
 
 fn main() {
     let mut run = Run::start();
-    let tests: [(&str, fn() -> Result<usize, String>); 8] = [
+    let tests: [(&str, fn() -> Result<usize, String>); 7] = [
         ("every modulus up to 400", every_small_pair),
         ("random moduli up to 2^62", random_pairs),
         ("random numbers of every size", random_pairs_of_every_size),
         ("common divisors and powers of two", common_divisors_and_powers_of_two),
         ("extremes", extreme_pairs),
         ("Fibonacci numbers", fibonacci_pairs),
-        ("periods", periods),
         ("settled examples", settled_examples),
     ];
     for (name, test) in tests {
-        run.count(name, test());
+        run.count(name, test().map(|pairs| format!("{pairs} pairs")));
     }
+    run.reference("periods", periods().map(|pairs| format!("{pairs} pairs")));
     run.end()
 }

@@ -109,11 +109,21 @@ impl Run {
                 self.passed += 1;
                 println!("ok: {name} ({compared})");
             }
-            Err(why) => {
-                self.failed += 1;
-                println!("FAILED: {name}: {why}");
-            }
+            Err(why) => self.fail(name, &why),
         }
+    }
+
+    /// Shows a test of the reference alone, which counts only if it failed.
+    pub fn reference(&mut self, name: &str, result: Result<impl Display, String>) {
+        match result {
+            Ok(compared) => println!("reference: {name} ({compared})"),
+            Err(why) => self.fail(&format!("reference: {name}"), &why),
+        }
+    }
+
+    fn fail(&mut self, name: &str, why: &str) {
+        self.failed += 1;
+        println!("FAILED: {name}: {why}");
     }
 
     /// Ends the program with the line of counts, and with status 0 only if none failed.

@@ -14,17 +14,12 @@ use process::{ended, piped, piped_after, started, Shown, LIMIT};
 use reference::{Domain, LARGEST, LARGEST_CURVE, MOST, PLACES};
 use std::collections::HashSet;
 use std::fs::{read_dir, File};
+use std::os::unix::process::ExitStatusExt;
 use std::path::{Path, PathBuf};
 use std::process::Child;
 use std::time::Duration;
 use std::{env, fmt, fs, iter, thread};
 use texts::{J, LONGEST};
-
-/// The arguments that the reference goes through at most for the verdict of phase 1: of a random domain, of a chosen one, and
-/// of an example.
-const THROUGH: u64 = 1 << 14;
-const FAR_THROUGH: u64 = 1 << 22;
-const FARTHEST_THROUGH: u64 = 1 << 25;
 
 const P11: Domain = Domain { modulus: 45, value: 0, slope: 0, curve: 1, count: 8, window: 1 };
 
@@ -35,19 +30,18 @@ const LONGEST_LIST: Domain = Domain { modulus: MOST, value: 4096, slope: 1, curv
 const LONGEST_TEXT: usize = 165;
 const LONGEST_OUTPUT: usize = 69_674;
 
+/// The number of the signal that ends a program whose output nobody reads.
+const SIGPIPE: i32 = 13;
+
 /// A job text and what the program has to print.
 struct Case {
     text: Vec<u8>,
     output: String,
 }
 
-/// The job of a domain, by the reference; nothing where its verdict of phase 1 takes more than so many arguments.
-fn decided(domain: &Domain, through: u64) -> Option<Case> {
-    Some(Case { text: domain.text().into(), output: domain.printed(through)? })
-}
-
+/// The job of a domain, by the reference.
 fn job(domain: Domain) -> Case {
-    decided(&domain, FAR_THROUGH).unwrap_or_else(|| panic!("{domain:?}: too far for the reference"))
+    Case { text: domain.text().into(), output: domain.printed() }
 }
 
 /// The domain of a well-formed text: its numbers are read leniently, and then the text has to be theirs.
@@ -74,11 +68,11 @@ fn malformed(text: impl Into<Vec<u8>>) -> Case {
     Case { text, output: "refused=8\n".into() }
 }
 
-/// A text that was made in some way, well formed or not; nothing where the reference would have to go too far.
-fn either(text: Vec<u8>) -> Option<Case> {
+/// A text that was made in some way, well formed or not.
+fn either(text: Vec<u8>) -> Case {
     match reading(&text) {
-        Some(domain) => decided(&domain, THROUGH),
-        None => Some(malformed(text)),
+        Some(domain) => job(domain),
+        None => malformed(text),
     }
 }
 
@@ -353,29 +347,28 @@ fn printed_numbers_of_every_length() -> Vec<Case> {
     cases
 }
 
-/// So many random domains, made of their own seed, with others in the place of those that are too far for the reference.
-fn random_jobs(own: u64, times: usize, through: u64, make: impl Fn(&mut Random) -> Domain) -> Vec<Case> {
+/// So many random domains, made of their own seed.
+fn random_jobs(own: u64, times: usize, make: impl Fn(&mut Random) -> Domain) -> Vec<Case> {
     let mut random = Random(SEED + own);
-    let drawn = iter::from_fn(|| Some(decided(&make(&mut random), through)));
-    drawn.flatten().take(times).collect()
+    (0..times).map(|_| job(make(&mut random))).collect()
 }
 
 fn random_small_moduli() -> Vec<Case> {
-    random_jobs(4, 700, THROUGH, |random| {
+    random_jobs(4, 700, |random| {
         let (modulus, count) = (2 + random.below(4096), random_count(random, 32));
         somewhere(random, modulus, count)
     })
 }
 
 fn random_moduli_of_every_size() -> Vec<Case> {
-    random_jobs(5, 500, THROUGH, |random| {
+    random_jobs(5, 500, |random| {
         let (modulus, count) = (1 + random.sized(LARGEST - 1), random_count(random, 64));
         somewhere(random, modulus, count)
     })
 }
 
 fn random_large_moduli() -> Vec<Case> {
-    random_jobs(6, 300, THROUGH, |random| {
+    random_jobs(6, 300, |random| {
         let (modulus, count) = (LARGEST - random.below(LARGEST / 2 + 1), random_count(random, 128));
         somewhere(random, modulus, count)
     })
@@ -383,7 +376,7 @@ fn random_large_moduli() -> Vec<Case> {
 
 /// From mostly cleared to some hard ones.
 fn realistic_jobs() -> Vec<Case> {
-    random_jobs(7, 24, FAR_THROUGH, |random| {
+    random_jobs(7, 24, |random| {
         let modulus = (1 << 60) - random.below(1 << 59);
         let (most, size) = (modulus >> one_of(random, &[29, 18, 14, 11]), random.below(40));
         let (curve, window) = (signed(random, size), random.below(most));
@@ -392,7 +385,7 @@ fn realistic_jobs() -> Vec<Case> {
 }
 
 fn largest_count() -> Vec<Case> {
-    random_jobs(8, 6, FAR_THROUGH, |random| {
+    random_jobs(8, 6, |random| {
         let (most, size) = (LARGEST >> one_of(random, &[14, 20, 24]), random.below(4));
         let (curve, window) = (signed(random, size), random.below(most));
         Domain { curve, window, ..somewhere(random, LARGEST - 57, MOST) }
@@ -424,44 +417,49 @@ fn late_ends(program: &str) -> Result<Tally, String> {
     let more: [&[u8]; 5] = [b"", b"\n", b"\0", b"7", &texts[0]];
     let mut cases = Vec::new();
     for (text, more) in texts.iter().flat_map(|text| more.map(|more| (text, more))) {
-        let case = either([&text[..], more].concat()).unwrap();
+        let case = either([&text[..], more].concat());
         case.check_pieces(program, &[b"", text, more], Duration::from_millis(50))?;
         cases.push(case);
     }
     Ok(Tally::of(&cases))
 }
 
-/// The program ends also where nobody reads its output, with the signal for that and without, and where the output is full or
-/// closed.
+/// A write that fails is not reported: the program ends as ever where the output is full or closed, and where nobody reads it and
+/// the signal for that is ignored; else with that signal.
 fn unwritable_output(program: &str) -> Result<Tally, String> {
     let texts = [J.text(), LONGEST_LIST.text(), LONGEST.text(), String::new()];
     let firsts = ["trap '' PIPE", "exec >/dev/full", "exec >&-"];
     for text in &texts {
-        for mut command in iter::once(piped(program)).chain(firsts.map(|first| piped_after(first, program))) {
+        let as_ever = firsts.map(|first| (piped_after(first, program), None));
+        for (mut command, signal) in iter::once((piped(program), Some(SIGPIPE))).chain(as_ever) {
             let mut child = started(&mut command)?;
+            let wrong = |what: String| format!("{command:?} on {text:?}: {what}");
             drop(child.stdout.take());
             let shown = ended(child, &[text.as_bytes()], Duration::ZERO);
-            shown.ok_or_else(|| format!("{command:?} on {text:?}: no end within {LIMIT:?}"))?;
+            let Shown { errors, status, .. } = shown.ok_or_else(|| wrong(format!("no end within {LIMIT:?}")))?;
+            if status.signal() != signal || status.success() != signal.is_none() || !errors.is_empty() {
+                return Err(wrong(format!("ended with {status} and {}", quoted(&errors))));
+            }
         }
     }
     Ok(Tally { texts: texts.len() * (1 + firsts.len()), ..Tally::default() })
 }
 
-/// The program ends also where its input cannot be read, or is closed.
+/// A read that fails counts as the end of the input: of a folder, and of a closed input, the text is empty.
 fn unreadable_input(program: &str) -> Result<Tally, String> {
     let folder = File::open(".").map_err(|why| why.to_string())?;
-    for command in [piped(program).stdin(folder), &mut piped_after("exec <&-", program)] {
-        let shown = ended(started(command)?, &[], Duration::ZERO);
-        shown.ok_or_else(|| format!("{command:?}: no end within {LIMIT:?}"))?;
+    let cases = [(); 2].map(|_| malformed(""));
+    for (case, command) in cases.iter().zip([piped(program).stdin(folder), &mut piped_after("exec <&-", program)]) {
+        let checked = case.check_process(started(command)?, &[], Duration::ZERO);
+        checked.map_err(|why| format!("{command:?}: {why}"))?;
     }
-    Ok(Tally { texts: 2, ..Tally::default() })
+    Ok(Tally::of(&cases))
 }
 
 /// A file of the examples as the program's input: it has to be well formed, and the output the reference's.
 fn example(program: &str, file: &Path) -> Result<Case, String> {
     let text = fs::read(file).map_err(|why| why.to_string())?;
-    let domain = reading(&text).ok_or("malformed")?;
-    let case = decided(&domain, FARTHEST_THROUGH).ok_or("too far for the reference")?;
+    let case = job(reading(&text).ok_or("malformed")?);
     let input = File::open(file).map_err(|why| why.to_string())?;
     case.check_process(started(piped(program).stdin(input))?, &[], Duration::ZERO)?;
     Ok(case)
@@ -564,7 +562,7 @@ fn main() {
         tests.texts(name, make().into_iter().map(malformed).collect());
     }
     for (name, make) in CHANGED {
-        tests.texts(name, make().into_iter().filter_map(either).collect());
+        tests.texts(name, make().into_iter().map(either).collect());
     }
     for (name, test) in PROCESSES {
         let result = test(&tests.program);

@@ -1,5 +1,5 @@
-//! Document 01's definitions, computed as they stand there: nothing here knows how the calls find their answers. Wide numbers,
-//! so that nothing can wrap.
+//! Document 01's definitions, computed as they stand there: nothing here knows how the calls find their answers. Only residues that
+//! may be too many to go through are counted by a floor sum. Wide numbers, so that nothing can wrap.
 
 // Each program uses some of them.
 #![allow(dead_code)]
@@ -108,6 +108,35 @@ pub fn reached(configurations: impl Iterator<Item = Configuration>, count: u64) 
     last.unwrap()
 }
 
+/// The sum of (a·x + b) / m, rounded down, over the x below n: as many points of a grid stand under a line. Where its slope is less
+/// than 1, they are counted row by row from the top, which is such a sum again, with smaller numbers.
+///
+/// Nothing wraps where n and m are at most 2^62, a at most m and b below 2m. The next n and m are no larger, as `top` is below
+/// (n + 1)·m; so a product of two numbers is at most 2^124, and `whole` is a part of the first sum, of n terms up to n.
+fn floor_sum(n: u128, m: u128, a: u128, b: u128) -> u128 {
+    if n == 0 {
+        return 0;
+    }
+    let whole = n * (n - 1) / 2 * (a / m) + n * (b / m);
+    let (a, b) = (a % m, b % m);
+    let top = a * n + b;
+    whole + floor_sum(top / m, a, m, top % m)
+}
+
+/// The first number below the end at which something holds, by halving: it holds from there on, and at the last.
+fn first(end: u64, holds: impl Fn(u64) -> bool) -> u64 {
+    let (mut low, mut high) = (0, end - 1);
+    while low < high {
+        let middle = (low + high) / 2;
+        if holds(middle) {
+            high = middle;
+        } else {
+            low = middle + 1;
+        }
+    }
+    low
+}
+
 #[derive(Clone, Copy, Debug)]
 pub struct Segment {
     pub modulus: u64,
@@ -133,6 +162,11 @@ impl Segment {
         refusal(&self.conflicts())
     }
 
+    /// The segment without its window.
+    pub fn line(&self) -> [u64; 4] {
+        [self.modulus, self.step, self.start, self.count]
+    }
+
     /// (b - a·x) mod M.
     pub fn residue(&self, x: u64) -> u64 {
         (self.start as i128 - self.step as i128 * x as i128).rem_euclid(self.modulus as i128) as u64
@@ -141,6 +175,20 @@ impl Segment {
     /// The least residue over the x of a range and the x that has it, by going through them all.
     pub fn least(&self, range: Range<u64>) -> (u64, u64) {
         range.map(|x| (self.residue(x), x)).min().unwrap()
+    }
+
+    /// How many x below n have a residue less than the window, without going through them. With y = b + (M - a)·x, the quotients of
+    /// y + M and of y + M - w by M differ by 1 where y mod M < w, and else not.
+    pub fn hard_below(&self, n: u64, window: u64) -> u128 {
+        let [n, m, a, b] = [n, self.modulus, self.step, self.start].map(u128::from);
+        floor_sum(n, m, m - a, b + m) - floor_sum(n, m, m - a, b + m - window as u128)
+    }
+
+    /// The least residue over the x below n and the first x that has it, both by such counts alone: neither the rows nor the
+    /// configurations are used.
+    pub fn least_below(&self, n: u64) -> (u64, u64) {
+        let least = first(self.modulus, |residue| self.hard_below(n, residue + 1) > 0);
+        (least, first(n, |x| self.hard_below(x + 1, least + 1) > 0))
     }
 
     /// The configuration that the regular search reaches.
@@ -155,7 +203,7 @@ impl Segment {
 
     /// The verdict clear of the search that reaches it: no residue below its count is less than the window.
     pub fn clear(&self, reached: &Configuration) -> bool {
-        self.least(0..reached.count as u64).0 >= self.window
+        self.hard_below(reached.count as u64, self.window) == 0
     }
 
     /// The hard arguments, by going through them all.
@@ -194,6 +242,11 @@ impl Domain {
     /// A number modulo the modulus.
     fn reduced(&self, number: i128) -> u64 {
         number.rem_euclid(self.modulus as i128) as u64
+    }
+
+    /// The domain without its window.
+    pub fn parabola(&self) -> [u64; 5] {
+        [self.modulus, self.value, self.slope, self.curve as u64, self.count]
     }
 
     /// V(x) = (c0 + c1·x + s·x(x-1)/2) mod M.
@@ -236,9 +289,16 @@ impl Domain {
         })
     }
 
-    /// The marks, given whether phase 1 clears the domain: of a part whose covering segment the fine search clears 1, else 2.
-    pub fn marks(&self, cleared: bool) -> [u8; 8] {
-        if cleared {
+    /// Phase 1's verdict: whether the regular search clears the covering segment.
+    pub fn cleared(&self) -> bool {
+        let covering = self.covering();
+        covering.clear(&covering.regular_reached())
+    }
+
+    /// The marks: all 0 where phase 1 clears the domain; else 1 for a part whose covering segment the fine search clears, and 2 for
+    /// another.
+    pub fn marks(&self) -> [u8; 8] {
+        if self.cleared() {
             return [0; 8];
         }
         self.parts().map(|part| {
@@ -251,33 +311,23 @@ impl Domain {
         })
     }
 
-    /// Phase 1's verdict, by going through the arguments up to a hard one of the covering segment; nothing where they are more
-    /// than so many.
-    pub fn cleared(&self, through: u64) -> Option<bool> {
-        let covering = self.covering();
-        let (count, through) = (covering.regular_reached().count, through as u128);
-        let possible = (0..count.min(through) as u64).any(|x| covering.residue(x) < covering.window);
-        (possible || count <= through).then_some(!possible)
-    }
-
     /// The text of the domain's job.
     pub fn text(&self) -> String {
         let Domain { modulus, value, slope, curve, count, window } = self;
         format!("modulus={modulus}\nvalue={value}\nslope={slope}\ncurve={curve}\ncount={count}\nwindow={window}\n")
     }
 
-    /// What the job program prints for that text; nothing where phase 1's verdict takes more than so many arguments.
-    pub fn printed(&self, through: u64) -> Option<String> {
+    /// What the job program prints for that text.
+    pub fn printed(&self) -> String {
         let hard = if self.refusal() == 0 { self.hard() } else { vec![] };
         let refusal = listing_refusal(self.refusal(), hard.len(), PLACES);
         if refusal != 0 {
-            return Some(format!("refused={refusal}\n"));
+            return format!("refused={refusal}\n");
         }
-        let cleared = self.cleared(through)?;
-        let first = if cleared { "cleared" } else { "possible" };
-        let marks = self.marks(cleared).map(|mark| mark.to_string()).concat();
+        let first = if self.cleared() { "cleared" } else { "possible" };
+        let marks = self.marks().map(|mark| mark.to_string()).concat();
         let list: String = hard.iter().map(|argument| format!("argument={argument}\n")).collect();
-        Some(format!("first={first}\nparts={marks}\nlisted={}\n{list}", hard.len()))
+        format!("first={first}\nparts={marks}\nlisted={}\n{list}", hard.len())
     }
 }
 

@@ -1,21 +1,16 @@
-//! Both searches of a segment against a reference written from document 01 alone, which goes through the arguments: every small
-//! modulus, random and extreme segments, refusals, the settled examples, with canaries around the caller's memory.
+//! Both searches of a segment against a reference written from document 01 alone, which counts residues: every small modulus,
+//! random and extreme segments, refusals, the settled examples, with canaries around the caller's memory.
 
 mod c_api;
 mod harness;
 mod reference;
 
+use c_api::ROWS;
 use harness::{Lent, Random, Run, SEED};
-use reference::{Configuration, Row, Segment, LARGEST, MOST};
+use reference::{Configuration, Segment, LARGEST, MOST};
+use std::collections::HashSet;
 use std::fmt;
 use Search::{Fine, Regular};
-
-/// The arguments that most tests go through at most, and those that a few go through.
-const THROUGH: u64 = 1 << 16;
-const FAR_THROUGH: u64 = 1 << 22;
-
-/// The arguments looked at from either end where there are too many to go through.
-const LOOK: u64 = 2000;
 
 /// Document 01's bound of a regular index.
 const HIGHEST: u64 = 29;
@@ -27,10 +22,10 @@ enum Search {
 }
 
 impl Search {
-    fn reached(self, rows: &[Row], count: u64) -> Configuration {
+    fn reached(self, segment: &Segment) -> Configuration {
         match self {
-            Regular => reference::reached(reference::regular_configurations(rows), count),
-            Fine => reference::reached(reference::fine_configurations(rows), count),
+            Regular => segment.regular_reached(),
+            Fine => segment.fine_reached(),
         }
     }
 
@@ -85,20 +80,20 @@ fn found(search: Search, segment: &Segment) -> Result<(u64, u64, bool), String> 
     Ok((distance, argument, clear == 1))
 }
 
-/// How many segments were accepted, how many of those were compared in full (the arguments below both counts reached were gone
-/// through), how many were refused, and the highest index reached.
+/// The segments compared, each once whatever its windows; the windows at which they were compared, how many were refused, and the
+/// highest index reached.
 #[derive(Default)]
 struct Tally {
-    accepted: usize,
-    full: usize,
+    segments: HashSet<[u64; 4]>,
+    windows: usize,
     refused: usize,
     highest: u64,
 }
 
 impl Tally {
     fn add(&mut self, other: &Tally) {
-        self.accepted += other.accepted;
-        self.full += other.full;
+        self.segments.extend(&other.segments);
+        self.windows += other.windows;
         self.refused += other.refused;
         self.highest = self.highest.max(other.highest);
     }
@@ -106,7 +101,7 @@ impl Tally {
 
 impl fmt::Display for Tally {
     fn fmt(&self, f: &mut fmt::Formatter) -> fmt::Result {
-        write!(f, "{} segments, {} of them in full", self.accepted, self.full)?;
+        write!(f, "{} segments, {} windows", self.segments.len(), self.windows)?;
         if self.refused != 0 {
             write!(f, "; {} refused", self.refused)?;
         }
@@ -114,48 +109,17 @@ impl fmt::Display for Tally {
     }
 }
 
-/// Where the arguments are too many to go through: the distance and argument that the search itself shows, if they pass whatever
-/// can be told without that.
-fn judged(search: Search, segment: &Segment, rows: &[Row], n: u64) -> Result<(u64, u64), String> {
-    let (distance, argument, _) = found(search, &Segment { window: 0, ..*segment })?;
-    if argument >= n || segment.residue(argument) != distance {
-        return search.wrong(segment, "no such argument");
-    }
-    // A nearer point is to be looked for at the ends, and beside the argument shown: a denominator away, or what is left of n.
-    let apart = rows.iter().map(|row| row.denominator as u64).filter(|&q| q < n).flat_map(|q| [q, n - q]);
-    let beside = apart.flat_map(|by| [argument.checked_sub(by), argument.checked_add(by)]).flatten();
-    let ends = (0..LOOK.min(n)).chain(n.saturating_sub(LOOK)..n);
-    let smaller = |x| x != argument && x < n && segment.residue(x) <= distance;
-    if let Some(x) = beside.chain(ends).find(|&x| smaller(x)) {
-        return search.wrong(segment, &format!("the residue at {x} is not above distance {distance}"));
-    }
-    // A whole period has every residue that differs from the start by a multiple of gcd(a, M), which is M / P.
-    let period = rows.last().unwrap().denominator as u64;
-    if n == period && distance != segment.start % (segment.modulus / period) {
-        return search.wrong(segment, "not the least residue of the period");
-    }
-    Ok((distance, argument))
-}
-
-/// Compares both searches with the reference at the segment's window and at those where a verdict changes; goes through at most
-/// so many arguments.
-fn compare(segment: &Segment, through: u64, tally: &mut Tally) -> Result<(), String> {
+/// Compares both searches with the reference at the segment's window and at those where a verdict changes.
+fn compare(segment: &Segment, tally: &mut Tally) -> Result<(), String> {
     if segment.refusal() != 0 {
         tally.refused += 1;
         return shown(Regular, segment).and(shown(Fine, segment)).map(drop);
     }
-    let rows = reference::rows(segment.modulus, segment.step);
-    let [regular, fine] = [Regular, Fine].map(|search| search.reached(&rows, segment.count));
+    let [regular, fine] = [Regular, Fine].map(|search| search.reached(segment));
     if regular.index > HIGHEST || fine.count > regular.count {
         return Regular.wrong(segment, "index above 29, or fewer points than the fine search");
     }
-    let [r, f] = [regular, fine].map(|reached| reached.count as u64);
-    let fine_least = if f <= through { segment.least(0..f) } else { judged(Fine, segment, &rows, f)? };
-    let regular_least = match r {
-        _ if r > through => judged(Regular, segment, &rows, r)?,
-        _ if r > f => fine_least.min(segment.least(f..r)),
-        _ => fine_least,
-    };
+    let [regular_least, fine_least] = [regular, fine].map(|reached| segment.least_below(reached.count as u64));
     let (near, far) = (regular_least.0, fine_least.0);
     let mut windows = [segment.window, 0, segment.modulus, near, near + 1, far, far + 1];
     windows.sort();
@@ -167,17 +131,17 @@ fn compare(segment: &Segment, through: u64, tally: &mut Tally) -> Result<(), Str
                 return search.wrong(&segment, &format!("{has:?} for {wanted:?}"));
             }
         }
-        tally.accepted += 1;
-        tally.full += (r <= through) as usize;
+        tally.windows += 1;
     }
+    tally.segments.insert(segment.line());
     tally.highest = tally.highest.max(regular.index);
     Ok(())
 }
 
-fn all(through: u64, segments: impl IntoIterator<Item = Segment>) -> Result<Tally, String> {
+fn all(segments: impl IntoIterator<Item = Segment>) -> Result<Tally, String> {
     let mut tally = Tally::default();
     for segment in segments {
-        compare(&segment, through, &mut tally)?;
+        compare(&segment, &mut tally)?;
     }
     Ok(tally)
 }
@@ -185,7 +149,7 @@ fn all(through: u64, segments: impl IntoIterator<Item = Segment>) -> Result<Tall
 /// Compares so many random segments, made of their own seed.
 fn random_segments(own: u64, times: usize, make: impl Fn(&mut Random, usize) -> Segment) -> Result<Tally, String> {
     let mut random = Random(SEED + own);
-    all(THROUGH, (0..times).map(|i| make(&mut random, i)))
+    all((0..times).map(|i| make(&mut random, i)))
 }
 
 fn segment([modulus, step, start, count, window]: [u64; 5]) -> Segment {
@@ -212,7 +176,8 @@ fn by_quotients(random: &mut Random) -> (u64, u64) {
     (modulus as u64, step as u64)
 }
 
-fn every_small_segment() -> Result<Tally, String> {
+/// Every segment of a modulus up to 24, with counts also above the period.
+fn small_segments() -> impl Iterator<Item = Segment> {
     let segments = |modulus| {
         (0..modulus).flat_map(move |step| {
             (0..modulus).flat_map(move |start| {
@@ -223,13 +188,17 @@ fn every_small_segment() -> Result<Tally, String> {
             })
         })
     };
-    all(THROUGH, (2..=24).flat_map(segments))
+    (2..=24).flat_map(segments)
+}
+
+fn every_small_segment() -> Result<Tally, String> {
+    all(small_segments())
 }
 
 fn random_moduli_of_every_size() -> Result<Tally, String> {
-    random_segments(0, 20_000, |random, _| {
+    random_segments(0, 30_000, |random, _| {
         let modulus = 1 + random.sized(LARGEST - 1);
-        let (step, count) = (random.below(modulus), random.sized(4096));
+        let (step, count) = (random.below(modulus), random.sized(MOST));
         somewhere(random, modulus, step, count)
     })
 }
@@ -237,7 +206,7 @@ fn random_moduli_of_every_size() -> Result<Tally, String> {
 fn random_large_moduli() -> Result<Tally, String> {
     random_segments(1, 6_000, |random, _| {
         let modulus = LARGEST - random.below(LARGEST / 2 + 1);
-        let (step, count) = (random.below(modulus), 1 + random.below(4096));
+        let (step, count) = (random.below(modulus), random.sized(MOST));
         somewhere(random, modulus, step, count)
     })
 }
@@ -250,14 +219,14 @@ fn common_divisors_and_powers_of_two() -> Result<Tally, String> {
         } else {
             2 + random.below(LARGEST / divisor - 1)
         };
-        let (step, count) = (divisor * random.below(times), random.sized(4096));
+        let (step, count) = (divisor * random.below(times), random.sized(MOST));
         somewhere(random, divisor * times, step, count)
     })
 }
 
 fn counts_about_the_period() -> Result<Tally, String> {
     random_segments(3, 10_000, |random, i| {
-        let period = 2 + random.below(2000);
+        let period = 1 + random.sized(MOST / 2 - 1);
         let divisor = random.sized(LARGEST / period);
         let count = [period - 1, period, period + 1, 2 * period, random.sized(MOST), MOST][i % 6];
         let step = divisor * random.below(period);
@@ -277,19 +246,19 @@ fn extreme_steps() -> Result<Tally, String> {
         for step in steps {
             for count in [1, 2, 3, 100, 5000, MOST] {
                 let starts = [0, 1, m / 2, m - 1, random.below(m)];
-                // The reference is slow at the largest count.
+                // The reference is slow at the largest count: it goes through the fine configurations.
                 let starts = if count == MOST { &starts[3..] } else { &starts };
                 segments.extend(starts.iter().map(|&start| Segment { modulus: m, step, start, count, window: m / 2 }));
             }
         }
     }
-    all(THROUGH, segments)
+    all(segments)
 }
 
 fn random_quotients() -> Result<Tally, String> {
-    random_segments(5, 12_000, |random, i| {
+    random_segments(5, 12_000, |random, _| {
         let (modulus, step) = by_quotients(random);
-        let count = random.sized(if i % 64 == 0 { MOST } else { 1 << 13 });
+        let count = random.sized(MOST);
         somewhere(random, modulus, step, count)
     })
 }
@@ -315,7 +284,7 @@ fn counts_of_configurations() -> Result<Tally, String> {
 fn starts_at_points() -> Result<Tally, String> {
     random_segments(7, 9_000, |random, i| {
         let (modulus, step) = by_quotients(random);
-        let (count, x) = (random.sized(4096), random.sized(1 << 14) - 1);
+        let (count, x) = (random.sized(MOST), random.sized(4 * MOST) - 1);
         let point = (step as u128 * x as u128 % modulus as u128) as u64;
         let start = [point, (point + 1) % modulus, (point + modulus - 1) % modulus][i % 3];
         Segment { start, ..somewhere(random, modulus, step, count) }
@@ -337,17 +306,13 @@ fn golden_pairs() -> Vec<(u64, u64)> {
 /// Golden steps have the longest searches: some reach the highest index.
 fn golden_steps() -> Result<Tally, String> {
     let mut random = Random(SEED + 8);
-    let (mut segments, mut long) = (Vec::new(), Vec::new());
-    for (i, (modulus, step)) in golden_pairs().into_iter().enumerate() {
+    let mut segments = Vec::new();
+    for (modulus, step) in golden_pairs() {
         for count in [1, 2, 3, 4, 5, 6, 89, 90, 10_946, 832_040, 832_041, MOST] {
             segments.extend([step, modulus - step].map(|step| somewhere(&mut random, modulus, step, count)));
         }
-        if i % 12 == 11 {
-            long.push(somewhere(&mut random, modulus, step, MOST));
-        }
     }
-    let mut tally = all(THROUGH, segments)?;
-    tally.add(&all(FAR_THROUGH, long)?);
+    let tally = all(segments)?;
     match tally.highest {
         HIGHEST => Ok(tally),
         highest => Err(format!("the highest index reached is {highest}")),
@@ -355,15 +320,11 @@ fn golden_steps() -> Result<Tally, String> {
 }
 
 fn largest_count() -> Result<Tally, String> {
-    let mut random = Random(SEED + 9);
-    all(
-        FAR_THROUGH,
-        (0..36).map(|_| {
-            let modulus = LARGEST - random.below(LARGEST / 2 + 1);
-            let step = random.below(modulus);
-            somewhere(&mut random, modulus, step, MOST)
-        }),
-    )
+    random_segments(9, 3_000, |random, _| {
+        let modulus = LARGEST - random.below(LARGEST / 2 + 1);
+        let step = random.below(modulus);
+        somewhere(random, modulus, step, MOST)
+    })
 }
 
 /// Every set of conditions in conflict with each other: the lowest number wins.
@@ -377,11 +338,11 @@ fn every_set_of_refusals() -> Result<Tally, String> {
             }
         }
     }
-    let sets: std::collections::HashSet<_> = segments.iter().map(Segment::conflicts).collect();
+    let sets: HashSet<_> = segments.iter().map(Segment::conflicts).collect();
     if sets.len() != 32 {
         return Err(format!("only {} of the 32 sets", sets.len()));
     }
-    all(THROUGH, segments)
+    all(segments)
 }
 
 fn extreme_fields() -> Result<Tally, String> {
@@ -393,22 +354,19 @@ fn extreme_fields() -> Result<Tally, String> {
             segments.extend(counts.map(|count| Segment { modulus, step, start, count, window }));
         }
     }
-    all(THROUGH, segments)
+    all(segments)
 }
 
 fn random_fields_of_every_size() -> Result<Tally, String> {
     let mut random = Random(SEED + 10);
     let mut field = || random.next() >> random.below(64);
-    all(
-        THROUGH,
-        (0..100_000).map(|_| Segment {
-            modulus: field(),
-            step: field(),
-            start: field(),
-            count: field() >> 40,
-            window: field(),
-        }),
-    )
+    all((0..100_000).map(|_| Segment {
+        modulus: field(),
+        step: field(),
+        start: field(),
+        count: field() >> 40,
+        window: field(),
+    }))
 }
 
 /// Where a search is clear, no argument below the count has a residue under the window: by going through them.
@@ -429,7 +387,7 @@ fn clear_is_right() -> Result<String, String> {
             }
         }
     }
-    Ok(format!("8000 searches, {clear} of them clear"))
+    Ok(format!("4000 segments, 8000 searches, {clear} of them clear"))
 }
 
 /// A segment with a smaller count or window is cleared by the same search and by the fine one.
@@ -450,42 +408,62 @@ fn smaller_stays_clear() -> Result<String, String> {
             }
         }
     }
-    Ok(format!("{smaller} segments"))
+    Ok(format!("20000 segments, {smaller} pairs of a count and a window"))
 }
 
-/// What 01 says of the lists, of the reference's: they ascend, both end with the period, the regular counts are among the fine.
-fn lists_of_the_reference() -> Result<String, String> {
-    let mut lists = 0;
-    for (modulus, step) in (2..=200).flat_map(|m| (0..m).map(move |a| (m, a))) {
-        let rows = reference::rows(modulus, step);
-        let regular: Vec<_> = reference::regular_configurations(&rows).map(|c| c.count).collect();
-        let fine: Vec<_> = reference::fine_configurations(&rows).map(|c| c.count).collect();
-        let period = Some(reference::period(modulus, step) as u128);
-        let ends =
-            [&regular, &fine].iter().all(|list| list.is_sorted_by(|a, b| a < b) && list.last().copied() == period);
-        if !ends || !regular.iter().all(|count| fine.contains(count)) {
-            return Err(format!("modulus {modulus}, step {step}: {regular:?}, {fine:?}"));
-        }
-        lists += 2;
+/// The table of 14/45 in 000, by hand from 01's definitions and without its row (4, 0): i, t, q(i-1,t), q(i), theta(i-1,t),
+/// theta(i), k(i+1).
+const TABLE_OF_000: [[u64; 7]; 10] = [
+    [0, 0, 0, 1, 45, 14, 3],
+    [0, 1, 1, 1, 31, 14, 3],
+    [0, 2, 2, 1, 17, 14, 3],
+    [1, 0, 1, 3, 14, 3, 4],
+    [1, 1, 4, 3, 11, 3, 4],
+    [1, 2, 7, 3, 8, 3, 4],
+    [1, 3, 10, 3, 5, 3, 4],
+    [2, 0, 3, 13, 3, 2, 1],
+    [3, 0, 13, 16, 2, 1, 2],
+    [3, 1, 29, 16, 1, 1, 2],
+];
+
+/// Compares a row with the expansion, and with the gaps between the points of its configuration: q(i) of length theta(i-1,t) and
+/// q(i-1,t) of length theta(i).
+fn compare_row([i, t, q_before, q, theta_before, theta, k]: [u64; 7]) -> Result<(), String> {
+    let [mut remainders, mut denominators, mut quotients] = [[0; ROWS]; 3];
+    c_api::expand(45, 14, &mut remainders, &mut denominators, &mut quotients, &mut 0);
+    let expanded = [denominators, remainders, quotients].map(|column| column[i as usize]);
+    if expanded != [q, theta, k] {
+        return Err(format!("row ({i}, {t}): the expansion has {expanded:?}"));
     }
-    Ok(format!("{lists} lists"))
+    // The distance is 0 where the start is a point, and grows by 1 from there to the next point.
+    let distance = |start| found(Fine, &segment([45, 14, start, q_before + q, 1])).map(|(distance, ..)| distance);
+    let distances = (0..45).map(distance).collect::<Result<Vec<_>, _>>()?;
+    let mut gaps: Vec<u64> = distances.chunk_by(|one, next| one + 1 == *next).map(|gap| gap.len() as u64).collect();
+    gaps.sort();
+    if gaps != [vec![theta; q_before as usize], vec![theta_before; q as usize]].concat() {
+        return Err(format!("row ({i}, {t}): the gaps are {gaps:?}"));
+    }
+    Ok(())
 }
 
-/// The table of 14/45 in 000, with its values by 01's definitions: at every count and start.
+/// Every row of the table, and the configuration that each count reaches by it, from every start. A regular search reaches the rows
+/// with t = 0, then the period.
 fn table_of_000() -> Result<Tally, String> {
-    let rows = reference::rows(45, 14);
-    let regular: Vec<_> = reference::regular_configurations(&rows).map(|c| (c.count, c.index)).collect();
-    let fine: Vec<_> = reference::fine_configurations(&rows).map(|c| (c.count, c.index, c.part)).collect();
-    if regular != [(1, 0), (4, 1), (16, 2), (29, 3), (45, 4)] {
-        return Err(format!("regular {regular:?}"));
+    TABLE_OF_000.into_iter().try_for_each(compare_row)?;
+    let fine: Vec<_> = TABLE_OF_000.iter().map(|[i, t, q_before, q, ..]| vec![q_before + q, *i, *t]).collect();
+    let regular = fine.iter().filter(|words| words[2] == 0).map(|words| words[..2].to_vec());
+    let regular: Vec<_> = regular.chain([vec![45, 4]]).collect();
+    let starts = |count| (0..45).map(move |start| segment([45, 14, start, count, 1]));
+    for segment in (1..=60).flat_map(starts) {
+        for (search, configurations) in [(Regular, &regular), (Fine, &fine)] {
+            let reached = configurations.iter().find(|words| words[0] >= segment.count);
+            let (has, wanted) = (shown(search, &segment)?.unwrap(), reached.or(configurations.last()).unwrap());
+            if !has.starts_with(wanted) {
+                return search.wrong(&segment, &format!("{has:?} for {wanted:?} in front"));
+            }
+        }
     }
-    let rows_0_and_1 = vec![(1, 0, 0), (2, 0, 1), (3, 0, 2), (4, 1, 0), (7, 1, 1), (10, 1, 2), (13, 1, 3)];
-    let rows_2_and_3 = vec![(16, 2, 0), (29, 3, 0), (45, 3, 1)];
-    if fine != [rows_0_and_1, rows_2_and_3].concat() {
-        return Err(format!("fine {fine:?}"));
-    }
-    let starts = |count| (0..45).map(move |start| Segment { modulus: 45, step: 14, start, count, window: 1 });
-    all(THROUGH, (1..=60).flat_map(starts))
+    all((1..=60).flat_map(starts))
 }
 
 /// Document 01's examples P2 to P8: modulus, step, start, count, window; the words shown, as far as 01 tells them.
@@ -512,7 +490,7 @@ fn settled_examples() -> Result<Tally, String> {
             return search.wrong(&segment(fields), &format!("{name}: {words:?}"));
         }
     }
-    all(THROUGH, examples.map(|example| segment(example.2)))
+    all(examples.map(|example| segment(example.2)))
 }
 
 /// Document 01's examples without a mark that concern segments.
@@ -532,7 +510,72 @@ fn settled_refusals() -> Result<Tally, String> {
             }
         }
     }
-    all(THROUGH, refusals.map(|refusal| segment(refusal.0)))
+    all(refusals.map(|refusal| segment(refusal.0)))
+}
+
+/// What 01 says of the lists, of the reference's: they ascend, both end with the period, the regular counts are among the fine.
+fn lists_of_the_reference() -> Result<String, String> {
+    let mut lists = 0;
+    for (modulus, step) in (2..=200).flat_map(|m| (0..m).map(move |a| (m, a))) {
+        let rows = reference::rows(modulus, step);
+        let regular: Vec<_> = reference::regular_configurations(&rows).map(|c| c.count).collect();
+        let fine: Vec<_> = reference::fine_configurations(&rows).map(|c| c.count).collect();
+        let period = Some(reference::period(modulus, step) as u128);
+        let ends =
+            [&regular, &fine].iter().all(|list| list.is_sorted_by(|a, b| a < b) && list.last().copied() == period);
+        if !ends || !regular.iter().all(|count| fine.contains(count)) {
+            return Err(format!("modulus {modulus}, step {step}: {regular:?}, {fine:?}"));
+        }
+        lists += 2;
+    }
+    Ok(format!("{lists} lists"))
+}
+
+/// What the reference counts is what it finds by going through the arguments: the hard ones and the least residue.
+fn counts_of_the_reference() -> Result<String, String> {
+    let mut random = Random(SEED + 13);
+    let some = (0..3_000).map(|i| {
+        let (modulus, step) = by_quotients(&mut random);
+        let count = random.sized(if i % 500 == 0 { MOST } else { 1 << 14 });
+        somewhere(&mut random, modulus, step, count)
+    });
+    let mut segments = 0;
+    for segment in small_segments().chain(some) {
+        let count = segment.count;
+        let (hard, least) = (segment.hard_below(count, segment.window), segment.least_below(count));
+        if hard != segment.hard().len() as u128 || least != segment.least(0..count) {
+            return Err(format!("{segment:?}: {hard} hard, {least:?}"));
+        }
+        segments += 1;
+    }
+    Ok(format!("{segments} segments"))
+}
+
+/// What the reference counts where there are too many arguments to go through. The hard ones up to an argument and from there on add
+/// up; a period has every residue that differs from the start by a multiple of gcd(a, M), which is M / P.
+fn far_counts_of_the_reference() -> Result<String, String> {
+    let mut random = Random(SEED + 14);
+    let ends = [LARGEST - 1, LARGEST].map(|m| [0, 1, 2, m / 2, m / 2 + 1, m - 2, m - 1].map(|step| (m, step)));
+    let mut pairs: Vec<_> = ends.concat().into_iter().chain(golden_pairs()).collect();
+    pairs.extend((0..2_000).map(|_| by_quotients(&mut random)));
+    for &(modulus, step) in &pairs {
+        let period = reference::rows(modulus, step).last().unwrap().denominator as u64;
+        for start in [0, modulus - 1, random.below(modulus)] {
+            let (x, window) = (random.below(LARGEST), random.below(modulus + 1));
+            let segment = Segment { modulus, step, start, count: 1, window };
+            let rest = Segment { start: segment.residue(x), ..segment };
+            let [all, before, after] =
+                [(segment, LARGEST), (segment, x), (rest, LARGEST - x)].map(|(s, n)| s.hard_below(n, window));
+            if all != before + after {
+                return Err(format!("{segment:?}: {all} hard, {before} below {x} and {after} from there on"));
+            }
+            let (least, argument) = segment.least_below(period);
+            if least != start % (modulus / period) || segment.residue(argument) != least || argument >= period {
+                return Err(format!("{segment:?}: {least} at {argument} below {period}"));
+            }
+        }
+    }
+    Ok(format!("{} segments", 3 * pairs.len()))
 }
 
 fn main() {
@@ -564,8 +607,10 @@ fn main() {
     }
     run.count("clear is right", clear_is_right());
     run.count("smaller stays clear", smaller_stays_clear());
-    run.count("lists of the reference", lists_of_the_reference());
-    let enough = sum.accepted >= 200_000 && sum.full >= 100_000;
+    run.reference("lists of configurations", lists_of_the_reference());
+    run.reference("hard and least residues, counted", counts_of_the_reference());
+    run.reference("the same, too far to go through", far_counts_of_the_reference());
+    let enough = sum.segments.len() >= 200_000;
     run.count("as many as meant", if enough { Ok(sum) } else { Err(format!("only {sum}")) });
     run.end()
 }
