@@ -75,12 +75,11 @@ fn fine_even(state: State, count: u64) -> State {
 #[inline(always)]
 fn fine_odd(state: State, count: u64) -> State {
     let row = divide(state);
-    let moved = carry_right(state, row);
     if ends(state, row, count) {
         let cuts = cut(state, cuts_to(state, row, count));
         return end(state, cuts, carry_right(state, cuts), cuts.number == row.number);
     }
-    next_row(state, row, moved, false)
+    next_row(state, row, carry_right(state, row), false)
 }
 
 #[inline(always)]
@@ -95,7 +94,7 @@ fn cut(state: State, number: u64) -> Cuts {
 
 #[inline(always)]
 fn ends(state: State, row: Cuts, count: u64) -> bool {
-    row.rest == 0 || reaches(state, row, count)
+    count <= state.shorts + 2 * state.longs || row.rest == 0 || reaches(state, row, count)
 }
 
 #[inline(always)]

@@ -166,14 +166,15 @@ impl Gaps {
         Gaps { p: step, q: modulus, u: 1, v: 0, x: 0, d: start }
     }
 
-    /// An even row, or its divisions alone where it reaches the count or the period and so is the last one.
+    /// An even row, or its divisions alone where it reaches the count or the period and so is the last one. One cut may be enough to
+    /// reach the count, and that is known before the divisions.
     #[inline(always)]
     fn even<D: Divisor>(&mut self, count: u64) -> Option<Row> {
         let by = D::new(self.p);
         let (cuts, rest) = by.divide(self.q);
         let (passed, left) = by.divide(self.d);
         let all = self.v + cuts * self.u;
-        if all + self.u >= count || rest == 0 {
+        if self.v + 2 * self.u >= count || all + self.u >= count || rest == 0 {
             return Some(Row { cuts, rest, passed, left });
         }
         self.q = rest;
@@ -189,7 +190,7 @@ impl Gaps {
         let by = D::new(self.q);
         let (cuts, rest) = by.divide(self.p);
         let all = self.u + cuts * self.v;
-        if all + self.v >= count || rest == 0 {
+        if self.u + 2 * self.v >= count || all + self.v >= count || rest == 0 {
             // One less than the way: a cut at the start itself is not passed.
             let (passed, left) = by.divide(self.p - 1 - self.d);
             return Some(Row { cuts, rest, passed, left });

@@ -16,7 +16,7 @@ use Rattle.segment.specs.declared.state.State.{State}
 use Rattle.segment.specs.declared.RegularAnswer.the-variants as regular-variants
 use Rattle.segment.specs.declared.FineAnswer.the-variants as fine-variants
 use Rattle.segment.proofs.Minimum.{least-is}
-use Rattle.segment.proofs.Walking.{ended}
+use Rattle.segment.proofs.Stepping.{ended}
 
 -- ---- refusals
 

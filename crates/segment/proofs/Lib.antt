@@ -3,7 +3,7 @@ mod Advancing
 mod Rows
 mod Invariant
 mod Steps
-mod Walking
+mod Stepping
 mod Answers
 mod Showing
 pub mod Laws

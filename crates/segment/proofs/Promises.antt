@@ -18,7 +18,7 @@ use Rattle.segment.specs.declared.Verdict.the-variants.{Clear}
 use Rattle.segment.specs.declared.RegularAnswer.the-variants as regular-variants
 use Rattle.segment.specs.declared.FineAnswer.the-variants as fine-variants
 use Rattle.segment.proofs.Answers.{accepted, refused-for, regular-refused, fine-refused}
-use Rattle.segment.proofs.Walking.{steps-correct}
+use Rattle.segment.proofs.Stepping.{steps-correct}
 use Rattle.segment.proofs.Showing.{argument-below, distance-least, cleared-none, verdict-iff, shown-correct}
 
 -- what the expansion promises of the searches of an accepted segment

@@ -76,7 +76,7 @@ Fine-answer-correct s (fine-variants.Shown f) =
 -- ---- the steps
 
 -- where a search stands: at one of its configurations, with the one argument of least residue below that count, and with that residue
-pub record Stands (k : Search) (s : Segment) (t : State) : Type 0 where
+pub record At-configuration (k : Search) (s : Segment) (t : State) : Type 0 where
   pub among : List·Memᴰ (configuration (t .longs + t .shorts) (t .index) (t .part)) (configurations-of k (s .unit) (s .step))
   pub below-count : t .argument < t .longs + t .shorts
   pub residue-is : residue s (t .argument) ≡ t .distance
@@ -85,7 +85,7 @@ pub record Stands (k : Search) (s : Segment) (t : State) : Type 0 where
 -- the steps of a search: from one of its configurations to a later one, to the one that it reaches, within 29. While it is not done, the count of that
 -- one is not enough; a step that does not end the search draws one quotient, and so does every step of the regular one
 pub record Steps-correct (k : Search) (s : Segment) : Type 0 where
-  pub stands : (n : ℕ) → Stands k s (state-after k s n)
+  pub at-configuration : (n : ℕ) → At-configuration k s (state-after k s n)
   pub begins-at-one : state-after k s 0 .longs + state-after k s 0 .shorts ≡ 1
   pub step-is : (n : ℕ) → state-after k s n .done ≡ false → state-after k s (suc n) ≡ next k (odd-after n) (s .count) (state-after k s n)
   pub later : (n : ℕ) → state-after k s n .done ≡ false

@@ -132,13 +132,16 @@ fn divide(state: State) -> Cuts
     }
 }
 
-// Whether the search is done after all cuts of the row.
+// Whether the search is done after all cuts of the row. One cut may be enough, and that is known before the division.
 fn ends(state: State, row: Cuts, count: u64) -> bool
     requires { ⌜ Steppable state ⌝ }
     requires { ⌜ Unreached count state ⌝ }
     requires { ⌜ row ≡ cuts-of (quotient state) state ⌝ }
     ensures { λ r. ⌜ r ≡ ends count state ⌝ }
 {
+    if count - state.shorts - state.longs <= state.longs {
+        return true;
+    }
     if row.rest == 0 {
         return true;
     }

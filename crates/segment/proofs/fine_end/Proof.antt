@@ -9,7 +9,7 @@ use Rattle.segment.specs.Accepted.{asked}
 use Rattle.segment.specs.State.{next}
 use Rattle.segment.proofs.Invariant.{row-few}
 use Rattle.segment.proofs.Steps.{unreached, steppable, fine-index}
-use Rattle.segment.proofs.Walking.{At, first-runs, first-done, running, goes-on, is-done}
+use Rattle.segment.proofs.Stepping.{At, first-runs, first-done, running, goes-on, is-done}
 use Rattle.segment.proofs.fine_end.Statement.{statement}
 use Rattle.segment.proofs.fine_end.Tie as tie
 

@@ -17,7 +17,7 @@ use Rattle.geometry.specs.TwoLength.{Least}
 use Rattle.geometry.proofs.Laws.{short-positive, least}
 use Rattle.segment.specs.Accepted.{Searchable}
 use Rattle.segment.specs.State.{points, first-state, next, odd-after, state-after, Ended}
-use Rattle.segment.specs.Promise.{Stands, Steps-correct}
+use Rattle.segment.specs.Promise.{At-configuration, Steps-correct}
 use Rattle.segment.specs.declared.state.State.{State}
 use Rattle.segment.proofs.Invariant.{Running, Search-invariant, ends-here, begins, row-few}
 use Rattle.segment.proofs.Steps.{regular-step, fine-step, regular-index, fine-index, regular-grows, fine-grows}
@@ -63,16 +63,16 @@ module _ (k : Search) (s : Segment) where
       rw (add-suc n m) (let h = stays-on n m e in stays (n + m) (ap (λ (t : State). t .done) h ∙ e) ∙ h)
 
 -- after n steps: the invariant, and n quotients drawn if the search is not done
-record Walked (k : Search) (s : Segment) (n : ℕ) (t : State) : Type 0 where
+record Stepped (k : Search) (s : Segment) (n : ℕ) (t : State) : Type 0 where
   invariant : Search-invariant k s (odd-after n) t
   drawn : t .done ≡ false → t .index ≡ n
 
 module _ (k : Search) {s : Segment} (a : Searchable s) where
-  walked : (n : ℕ) → Walked k s n (state-after k s n)
+  stepped : (n : ℕ) → Stepped k s n (state-after k s n)
   unfolding odd-after
-  walked zero = record { invariant = unfold state-after in begins k s a refl; drawn = unfold state-after first-state in λ _. refl }
-  walked (suc n) =
-      let w = walked n in
+  stepped zero = record { invariant = unfold state-after in begins k s a refl; drawn = unfold state-after first-state in λ _. refl }
+  stepped (suc n) =
+      let w = stepped n in
       ⊎-elim
       (λ e. let r = w .invariant .running e in
       rw (step-is k s n e) (record {
@@ -86,17 +86,17 @@ module _ (k : Search) {s : Segment} (a : Searchable s) where
       (dichotomy (state-after k s n .done))
 
   pub running-after : (n : ℕ) → state-after k s n .done ≡ false → Running k s (odd-after n) (state-after k s n)
-  running-after n = walked n .invariant .running
+  running-after n = stepped n .invariant .running
 
   few : (n : ℕ) → state-after k s n .done ≡ false → n < 29
-  few n e = omega (arith, row-few (running-after n e), walked n .drawn e)
+  few n e = omega (arith, row-few (running-after n e), stepped n .drawn e)
 
   -- 29 steps are enough
   done-within : state-after k s 29 .done ≡ true
   done-within = ⊎-elim (λ e. absurd (omega (arith, few 29 e))) (λ e. e) (dichotomy (state-after k s 29 .done))
 
   pub ended : Ended k s (state-after k s 29)
-  ended = walked 29 .invariant .ended done-within
+  ended = stepped 29 .invariant .ended done-within
 
   -- ---- what is promised
 
@@ -111,17 +111,17 @@ module _ (k : Search) {s : Segment} (a : Searchable s) where
         relabelled refl refl (r .part-is) ∙ sym (r .to-go (points t) (le-refl (points t))
             ∙ row-reached k _ _ _ _ _ _ (r .falls) (short-positive (r .holds .lengths)) (le-refl (points t))),
       ))
-      (λ e. (s .count, sym (walked n .invariant .ended e .label)))
+      (λ e. (s .count, sym (stepped n .invariant .ended e .label)))
       (dichotomy (state-after k s n .done))
 
   -- with the argument of least residue
   least-after : (n : ℕ) → Least s (points (state-after k s n)) (state-after k s n .argument) × (state-after k s n .distance ≡ residue s (state-after k s n .argument))
   least-after n =
-      ⊎-elim (λ e. let r = running-after n e in (least (r .holds), r .holds .shows)) (λ e. let f = walked n .invariant .ended e in (f .least, f .shows))
+      ⊎-elim (λ e. let r = running-after n e in (least (r .holds), r .holds .shows)) (λ e. let f = stepped n .invariant .ended e in (f .least, f .shows))
       (dichotomy (state-after k s n .done))
 
-  stands : (n : ℕ) → Stands k s (state-after k s n)
-  stands n =
+  at-configuration : (n : ℕ) → At-configuration k s (state-after k s n)
+  at-configuration n =
       let l = label-is n in
       let m = least-after n in
       record {
@@ -134,14 +134,14 @@ module _ (k : Search) {s : Segment} (a : Searchable s) where
   pub steps-correct : Steps-correct k s
   steps-correct =
       record {
-        stands = stands;
+        at-configuration = at-configuration;
         begins-at-one = unfold state-after first-state in refl;
         step-is = step-is k s;
         later = λ n e. rw (step-is k s n e) (grows k (running-after n e));
         not-enough = λ n e. running-after n e .below;
-        drawn = λ n. walked n .drawn;
-        one-quotient = λ n q e. ap (λ (t : State). t .index) (step-is k s n e) ∙ always q (odd-after n) (s .count) (state-after k s n) ∙ ap suc (walked n .drawn e);
-        reaches = λ n e. sym (walked n .invariant .ended e .label);
+        drawn = λ n. stepped n .drawn;
+        one-quotient = λ n q e. ap (λ (t : State). t .index) (step-is k s n e) ∙ always q (odd-after n) (s .count) (state-after k s n) ∙ ap suc (stepped n .drawn e);
+        reaches = λ n e. sym (stepped n .invariant .ended e .label);
         within-29 = done-within;
       }
     where
