@@ -1,0 +1,217 @@
+/*
+ * Geyserdish: the proved calls as C functions, for C99 and C++ on x86-64 Linux. `rt staticlib c_api` proves them and builds the
+ * library that has them, target/staticlib/libc_api.a. crates/c_api/src/lib.rt has their contracts; tests/header compares it with
+ * the declarations below.
+ *
+ * All numbers are whole. A segment has a modulus, a step, a start, a count and a window. Its residue at x is (start - step*x) mod
+ * modulus, for every x from 0 up, always from 0 to modulus - 1. Its arguments are the x below count. An argument is hard when its
+ * residue is less than the window.
+ *
+ * A domain has a modulus, a value, a slope, a curve (signed), a count and a window. Its value at x is
+ * V(x) = (value + slope*x + curve*x(x-1)/2) mod modulus, always from 0 to modulus - 1. Its arguments are the x below count. An
+ * argument x is hard when V(x) is less than the window.
+ *
+ * Each function but geyserdish_range returns 0, or the number of a refusal: the lowest one whose condition holds.
+ *
+ *     1   modulus below 2 or above 2^62
+ *     2   step or slope not below the modulus
+ *     3   start or value not below the modulus
+ *     4   count of a segment not 1 to 1,048,576; count of a domain not 8 to 1,048,576 or not a multiple of 8
+ *     5   window above the modulus
+ *     6   curve below -1,048,576 or above 1,048,576
+ *     7   more hard arguments than the list has places
+ *
+ * The caller may pass any numbers: the functions test them, and a refusal leaves all of the caller's memory as it was.
+ *
+ * The functions do not test pointers. The caller sees to it that each one points to memory for as many numbers as its array has,
+ * or for one number. A list is two arguments, a pointer and the number of its places: it points to memory for as many numbers. No
+ * two of these overlap. No pointer is null, but a list with 0 places may have a null pointer, since nothing is read or written
+ * through it. What the memory holds before the call does not matter, except in the list of geyserdish_range.
+ *
+ * The functions keep no state and allocate nothing, so several threads may call them at once, each with memory of its own.
+ */
+#ifndef GEYSERDISH_H
+#define GEYSERDISH_H
+
+#include <stddef.h>
+#include <stdint.h>
+
+#ifdef __cplusplus
+extern "C" {
+#endif
+
+/* The rows of an expansion's table. */
+#define GEYSERDISH_ROWS 89
+
+/*
+ * The continued-fraction expansion of step and modulus. It starts from
+ *     remainder(-1) = modulus, remainder(0) = step, denominator(-1) = 0, denominator(0) = 1
+ * and goes on while remainder(i) is not 0:
+ *     quotient(i)      = remainder(i-1) / remainder(i), rounded down
+ *     remainder(i+1)   = remainder(i-1) - quotient(i)*remainder(i)
+ *     denominator(i+1) = denominator(i-1) + quotient(i)*denominator(i)
+ * Let remainder(m) be the first that is 0; m is at most 88. The period is denominator(m), which is modulus / gcd(step, modulus).
+ *
+ * Leaves:
+ *     remainders[i]     remainder(i) for i from 0 to m, and 0 in the places after
+ *     denominators[i]   denominator(i) for i from 0 to m, and 0 in the places after
+ *     quotients[i]      quotient(i) for i from 0 to m-1, and 0 in the places after
+ *     *last             m
+ *
+ * Returns 0, or refuses by
+ *     1   modulus below 2 or above 2^62
+ *     2   step not below the modulus
+ * and leaves the three arrays and *last as they were.
+ */
+uint32_t geyserdish_expand(
+    uint64_t modulus,
+    uint64_t step,
+    uint64_t remainders[GEYSERDISH_ROWS],
+    uint64_t denominators[GEYSERDISH_ROWS],
+    uint64_t quotients[GEYSERDISH_ROWS],
+    uint64_t *last);
+
+/*
+ * The regular search of a segment. It finds the least residue over the x below a number n, without going through them. With the
+ * names of the expansion above, n is one of these numbers:
+ *     denominator(i) + denominator(i-1), with the index i, for each i from 0 to m-1
+ *     the period, with the index m
+ * It is the first of them that is not below count, or the period where count is above the period.
+ *
+ * Leaves:
+ *     shown[0]   n
+ *     shown[1]   its index, which is also how many quotients the search drew; at most 29
+ *     shown[2]   the distance, which is the least residue over the x below n
+ *     shown[3]   the x that has it; there is only one
+ *     shown[4]   the verdict: 1, clear, where the distance is at least the window, and otherwise 0, possible
+ *
+ * No argument of a clear segment is hard. Possible does not mean that one is: the x shown may be count or more. A scan tells.
+ *
+ * Returns 0, or refuses by
+ *     1   modulus below 2 or above 2^62
+ *     2   step not below the modulus
+ *     3   start not below the modulus
+ *     4   count not 1 to 1,048,576
+ *     5   window above the modulus
+ * and leaves shown as it was.
+ */
+uint32_t geyserdish_regular_search(
+    uint64_t modulus,
+    uint64_t step,
+    uint64_t start,
+    uint64_t count,
+    uint64_t window,
+    uint64_t shown[5]);
+
+/*
+ * The fine search of a segment: the regular search with more numbers for n, so that it may clear what the other does not. They are
+ *     denominator(i) + denominator(i-1) + t*denominator(i), with the label (i, t), for each i from 0 to m-1 and t from 0 to
+ *     quotient(i) - 1; the last of them is the period
+ *     1, with the label (0, 0), where step is 0
+ * It is the first of them that is not below count, or the period where count is above the period.
+ *
+ * Leaves:
+ *     shown[0]   n
+ *     shown[1]   the index i of its label
+ *     shown[2]   the part t of its label
+ *     shown[3]   the distance, which is the least residue over the x below n
+ *     shown[4]   the x that has it; there is only one
+ *     shown[5]   the verdict: 1, clear, where the distance is at least the window, and otherwise 0, possible
+ *
+ * Returns 0, or refuses by
+ *     1   modulus below 2 or above 2^62
+ *     2   step not below the modulus
+ *     3   start not below the modulus
+ *     4   count not 1 to 1,048,576
+ *     5   window above the modulus
+ * and leaves shown as it was.
+ */
+uint32_t geyserdish_fine_search(
+    uint64_t modulus,
+    uint64_t step,
+    uint64_t start,
+    uint64_t count,
+    uint64_t window,
+    uint64_t shown[6]);
+
+/*
+ * The scan of a segment: its hard arguments, all of them, found by visiting every argument.
+ *
+ * Leaves:
+ *     list[0] to list[*listed - 1]   the hard arguments, each once, in ascending order; the places after them are as they were
+ *     *listed                        how many hard arguments there are
+ *
+ * Returns 0, or refuses by
+ *     1   modulus below 2 or above 2^62
+ *     2   step not below the modulus
+ *     3   start not below the modulus
+ *     4   count not 1 to 1,048,576
+ *     5   window above the modulus
+ *     7   more hard arguments than places
+ * and leaves list and *listed as they were.
+ */
+uint32_t geyserdish_scan_segment(
+    uint64_t modulus,
+    uint64_t step,
+    uint64_t start,
+    uint64_t count,
+    uint64_t window,
+    uint32_t *list,
+    size_t places,
+    uint64_t *listed);
+
+/*
+ * The search of a domain: its hard arguments, all of them. A regular search tries to clear the whole domain. Where it does not, a
+ * fine search tries to clear each of eight equal parts, and a scan visits every argument of the parts that are not clear either.
+ *
+ * Leaves:
+ *     list[0] to list[searched[1] - 1]   the hard arguments, each once, in ascending order; the places after them are as they were
+ *     marks[0] to marks[7]               of the eight parts, in order: 0, not looked at, of all eight where the domain is cleared;
+ *                                        1, clear, with no hard argument; 2, possible, and scanned
+ *     searched[0]                        the verdict on the whole domain: 1, cleared, with no hard argument, or 0, possible
+ *     searched[1]                        how many hard arguments there are
+ *
+ * Returns 0, or refuses by
+ *     1   modulus below 2 or above 2^62
+ *     2   slope not below the modulus
+ *     3   value not below the modulus
+ *     4   count not 8 to 1,048,576 or not a multiple of 8
+ *     5   window above the modulus
+ *     6   curve below -1,048,576 or above 1,048,576
+ *     7   more hard arguments than places
+ * and leaves list, marks and searched as they were.
+ */
+uint32_t geyserdish_search_domain(
+    uint64_t modulus,
+    uint64_t value,
+    uint64_t slope,
+    int64_t curve,
+    uint64_t count,
+    uint64_t window,
+    uint32_t *list,
+    size_t places,
+    uint8_t marks[8],
+    uint64_t searched[2]);
+
+/*
+ * The range of a strictly ascending list between two bounds: its entries from lo on and below hi. Every place of the list is read
+ * as an entry, and none is changed.
+ *
+ * Leaves:
+ *     *start   the place of the range's first entry; where the range is empty, the number of entries below lo
+ *
+ * Returns how many entries the range has: they are list[*start] and those after it. For a list that does not ascend strictly, and
+ * for lo above hi, it returns 0 and leaves 0 in *start. It refuses nothing.
+ */
+uint64_t geyserdish_range(
+    const uint32_t *list,
+    size_t places,
+    uint32_t lo,
+    uint32_t hi,
+    uint64_t *start);
+
+#ifdef __cplusplus
+}
+#endif
+
+#endif

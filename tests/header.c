@@ -1,0 +1,529 @@
+/*
+ * The header as a C program uses it: every function on the examples that document 01 settles, and on a few more, with canaries
+ * around the caller's memory. The expected values are written by hand from document 01. Prints a line for each check and ends with
+ * 'N passed, M failed', and with status 0 only if M is 0.
+ */
+#include "geyserdish.h"
+
+#include <inttypes.h>
+#include <stdio.h>
+#include <string.h>
+
+/* The largest modulus, 2^62. */
+#define LARGEST (UINT64_C(1) << 62)
+
+/* ---- the caller's memory ---- */
+
+enum { CANARIES = 64, ROOM = CANARIES + GEYSERDISH_ROWS * 8 + CANARIES };
+
+/* Numbers of the caller, which a call may write, with bytes before and after them, which it may not. */
+struct lent {
+    const char *name;
+    size_t width; /* bytes of a number; 0 for memory that is nowhere */
+    size_t places;
+    union {
+        uint64_t aligned;
+        unsigned char bytes[ROOM];
+    } memory;
+};
+
+/* Memory as it is before a call. Every byte is 128 or more, so that it differs from every number that a call writes. */
+static struct lent fresh(const char *name, size_t width, size_t places) {
+    struct lent made = {name, width, places, {0}};
+    for (size_t i = 0; i < ROOM; i++) {
+        made.memory.bytes[i] = (unsigned char)(0x80 | 37 * i);
+    }
+    return made;
+}
+
+/* A list with 0 places and a null pointer. */
+static struct lent nowhere(void) {
+    return fresh("list", 0, 0);
+}
+
+/* The part that a call may write. */
+static void *lend(struct lent *lent) {
+    return lent->width == 0 ? NULL : lent->memory.bytes + CANARIES;
+}
+
+/* Writes numbers from the first place on. */
+static void set(struct lent *lent, const void *numbers, size_t places) {
+    if (places > 0) {
+        memcpy(lend(lent), numbers, places * lent->width);
+    }
+}
+
+static uint64_t number_at(const struct lent *lent, size_t place) {
+    uint64_t number = 0; /* x86-64 has the least byte first */
+    memcpy(&number, lent->memory.bytes + CANARIES + place * lent->width, lent->width);
+    return number;
+}
+
+/* ---- the lines and counts of the checks ---- */
+
+static int passed, failed;
+
+struct text {
+    char line[160];
+};
+
+/* What differs first between the memory and what it should be; empty where nothing does. */
+static struct text difference(const struct lent *has, const struct lent *wanted) {
+    struct text why = {""};
+    for (size_t i = 0; i < has->places; i++) {
+        uint64_t number = number_at(has, i), right = number_at(wanted, i);
+        if (number != right) {
+            snprintf(why.line, sizeof why.line, "%s[%zu] is %" PRIu64 ", not %" PRIu64, has->name, i, number, right);
+            return why;
+        }
+    }
+    if (memcmp(has->memory.bytes, wanted->memory.bytes, ROOM) != 0) {
+        snprintf(why.line, sizeof why.line, "written outside %s", has->name);
+    }
+    return why;
+}
+
+/* Counts a check: what the call returned, and the memory that was lent to it, have to be as wanted. */
+static void count_check(const char *call, const char *example, uint64_t returned, uint64_t right, const struct lent has[],
+                        const struct lent wanted[], size_t lents) {
+    struct text why = {""};
+    if (returned != right) {
+        snprintf(why.line, sizeof why.line, "returned %" PRIu64 ", not %" PRIu64, returned, right);
+    }
+    for (size_t i = 0; i < lents && why.line[0] == '\0'; i++) {
+        why = difference(&has[i], &wanted[i]);
+    }
+    if (why.line[0] == '\0') {
+        passed++;
+        printf("ok: %s, %s (returned %" PRIu64 ")\n", call, example, returned);
+    } else {
+        failed++;
+        printf("FAILED: %s, %s: %s\n", call, example, why.line);
+    }
+}
+
+static struct text with_places(const char *example, size_t places) {
+    struct text name;
+    snprintf(name.line, sizeof name.line, "%s, %zu %s", example, places, places == 1 ? "place" : "places");
+    return name;
+}
+
+/* ---- the expansion ---- */
+
+struct rows {
+    uint64_t remainders[GEYSERDISH_ROWS], denominators[GEYSERDISH_ROWS], quotients[GEYSERDISH_ROWS], last;
+};
+
+/* Here and below, nothing is expected to be written where the refusal is not 0. */
+static void check_expand(const char *example, uint64_t modulus, uint64_t step, uint32_t refusal, const struct rows *rows) {
+    struct lent has[4] = {fresh("remainders", 8, GEYSERDISH_ROWS), fresh("denominators", 8, GEYSERDISH_ROWS),
+                          fresh("quotients", 8, GEYSERDISH_ROWS), fresh("last", 8, 1)};
+    struct lent wanted[4] = {has[0], has[1], has[2], has[3]};
+    if (refusal == 0) {
+        set(&wanted[0], rows->remainders, GEYSERDISH_ROWS);
+        set(&wanted[1], rows->denominators, GEYSERDISH_ROWS);
+        set(&wanted[2], rows->quotients, GEYSERDISH_ROWS);
+        set(&wanted[3], &rows->last, 1);
+    }
+    uint32_t number = geyserdish_expand(modulus, step, lend(&has[0]), lend(&has[1]), lend(&has[2]), lend(&has[3]));
+    count_check("expand", example, number, refusal, has, wanted, 4);
+}
+
+/*
+ * With F(1) = F(2) = 1 and each later F the sum of the two before it, F(90) is the last one that is not above 2^62. The remainders
+ * of F(90) and F(89) are F(89), F(88), .., F(2), 0. All quotients are 1 but the last one: F(3) = 2 divided by F(2) = 1 is 2.
+ */
+static void check_expand_every_row(void) {
+    uint64_t fibonacci[91] = {0, 1};
+    for (size_t i = 2; i <= 90; i++) {
+        fibonacci[i] = fibonacci[i - 1] + fibonacci[i - 2];
+    }
+    struct rows rows = {{0}, {0}, {0}, 88};
+    for (size_t i = 0; i < 88; i++) {
+        rows.remainders[i] = fibonacci[89 - i];
+        rows.denominators[i] = fibonacci[i + 1];
+        rows.quotients[i] = 1;
+    }
+    rows.quotients[87] = 2;
+    rows.denominators[88] = fibonacci[90];
+    check_expand("Fibonacci numbers that fill every row", fibonacci[90], fibonacci[89], 0, &rows);
+}
+
+static void check_expansions(void) {
+    const struct rows p1 = {{14, 3, 2, 1, 0}, {1, 3, 13, 16, 45}, {3, 4, 1, 2, 0}, 4};
+    const struct rows step_0 = {{0}, {1}, {0}, 0};
+    const struct rows step_1 = {{1, 0}, {1, 2}, {2, 0}, 1};
+    const struct rows largest = {{1, 0}, {1, LARGEST}, {LARGEST, 0}, 1};
+    check_expand("P1", 45, 14, 0, &p1);
+    check_expand("modulus 2, step 0", 2, 0, 0, &step_0);
+    check_expand("modulus 2, step 1", 2, 1, 0, &step_1);
+    check_expand("modulus 2^62, step 1", LARGEST, 1, 0, &largest);
+    check_expand_every_row();
+
+    check_expand("modulus 0", 0, 0, 1, NULL);
+    check_expand("modulus 1", 1, 0, 1, NULL);
+    check_expand("modulus 2^62 + 1", LARGEST + 1, 0, 1, NULL);
+    check_expand("modulus 2^64 - 1", UINT64_MAX, 0, 1, NULL);
+    check_expand("step M", 45, 45, 2, NULL);
+    check_expand("step 2^64 - 1", 45, UINT64_MAX, 2, NULL);
+    check_expand("modulus 1, step M", 1, 1, 1, NULL);
+}
+
+/* ---- the searches of a segment ---- */
+
+struct segment {
+    uint64_t modulus, step, start, count, window;
+};
+
+struct refused_segment {
+    const char *example;
+    struct segment segment;
+    uint32_t refusal;
+};
+
+static const struct refused_segment REFUSED_SEGMENTS[] = {
+    {"modulus 0", {0, 0, 0, 1, 0}, 1},
+    {"modulus 1", {1, 0, 0, 1, 0}, 1},
+    {"modulus 2^62 + 1", {LARGEST + 1, 14, 44, 16, 1}, 1},
+    {"step M", {45, 45, 44, 16, 1}, 2},
+    {"start M", {45, 14, 45, 16, 1}, 3},
+    {"count 0", {45, 14, 44, 0, 1}, 4},
+    {"count 1048577", {45, 14, 44, 1048577, 1}, 4},
+    {"window M + 1", {45, 14, 44, 16, 46}, 5},
+    {"nothing accepted", {1, 1, 1, 0, 2}, 1},
+    {"only the modulus accepted", {45, 45, 45, 0, 46}, 2},
+    {"only modulus and step accepted", {45, 14, 45, 0, 46}, 3},
+    {"only modulus, step and start accepted", {45, 14, 44, 0, 46}, 4},
+};
+
+enum { REFUSED_SEGMENT_COUNT = sizeof REFUSED_SEGMENTS / sizeof REFUSED_SEGMENTS[0] };
+
+static void check_regular(const char *example, struct segment s, uint32_t refusal, const uint64_t shown[5]) {
+    struct lent has = fresh("shown", 8, 5), wanted = has;
+    if (refusal == 0) {
+        set(&wanted, shown, 5);
+    }
+    uint32_t number = geyserdish_regular_search(s.modulus, s.step, s.start, s.count, s.window, lend(&has));
+    count_check("regular search", example, number, refusal, &has, &wanted, 1);
+}
+
+static void check_fine(const char *example, struct segment s, uint32_t refusal, const uint64_t shown[6]) {
+    struct lent has = fresh("shown", 8, 6), wanted = has;
+    if (refusal == 0) {
+        set(&wanted, shown, 6);
+    }
+    uint32_t number = geyserdish_fine_search(s.modulus, s.step, s.start, s.count, s.window, lend(&has));
+    count_check("fine search", example, number, refusal, &has, &wanted, 1);
+}
+
+/*
+ * What P1 to P8 leave open. The residues of modulus 45, step 14 and start 44 are 44, 30, 16, 2, 33, 19, 5, 36, 22, 8, 39, 25, 11, 42,
+ * 28, 14, 0, .. So the least are 44 at 0 below 1, 30 at 1 below 2, 16 at 2 below 3, 2 at 3 below 4 to 16, and 0 at 16 below 17 to 45.
+ * P7's residues are 0, 1, 2, .. Those of modulus 2^62 and step 1 are start, start - 1, ..; a regular search reaches 1, with index 0,
+ * or 2^62, with index 1, and a fine one reaches count, with the label (0, count - 1).
+ */
+static void check_regular_searches(void) {
+    static const struct {
+        const char *example;
+        struct segment segment;
+        uint64_t shown[5]; /* count, index, distance, argument, verdict */
+    } accepted[] = {
+        {"P1, count 1", {45, 14, 44, 1, 1}, {1, 0, 44, 0, 1}},
+        {"P1, count 2", {45, 14, 44, 2, 1}, {4, 1, 2, 3, 1}},
+        {"P1, count 4", {45, 14, 44, 4, 1}, {4, 1, 2, 3, 1}},
+        {"P1, count 5", {45, 14, 44, 5, 1}, {16, 2, 2, 3, 1}},
+        {"P1, count 29", {45, 14, 44, 29, 1}, {29, 3, 0, 16, 0}},
+        {"P1, count 30", {45, 14, 44, 30, 1}, {45, 4, 0, 16, 0}},
+        {"P1, count 45", {45, 14, 44, 45, 1}, {45, 4, 0, 16, 0}},
+        {"P1, count 46", {45, 14, 44, 46, 1}, {45, 4, 0, 16, 0}},
+        {"P2", {45, 14, 44, 16, 1}, {16, 2, 2, 3, 1}},
+        {"P3", {45, 14, 44, 17, 1}, {29, 3, 0, 16, 0}},
+        {"P4", {45, 14, 8, 5, 1}, {16, 2, 0, 7, 0}},
+        {"P5, window 9", {45, 0, 9, 1048576, 9}, {1, 0, 9, 0, 1}},
+        {"P5, window 10", {45, 0, 9, 1048576, 10}, {1, 0, 9, 0, 0}},
+        {"P7", {45, 44, 0, 3, 1}, {45, 2, 0, 0, 0}},
+        {"P8, window 44", {45, 14, 44, 1, 44}, {1, 0, 44, 0, 1}},
+        {"P8, window M", {45, 14, 44, 1, 45}, {1, 0, 44, 0, 0}},
+        {"window 0", {45, 14, 44, 17, 0}, {29, 3, 0, 16, 1}},
+        {"window M", {45, 14, 44, 16, 45}, {16, 2, 2, 3, 0}},
+        {"modulus 2", {2, 0, 0, 1, 0}, {1, 0, 0, 0, 1}},
+        {"modulus 2^62, window 2^62 - 1", {LARGEST, 1, LARGEST - 1, 1, LARGEST - 1}, {1, 0, LARGEST - 1, 0, 1}},
+        {"modulus 2^62, window 2^62", {LARGEST, 1, LARGEST - 1, 1, LARGEST}, {1, 0, LARGEST - 1, 0, 0}},
+        {"modulus 2^62, count 1048576", {LARGEST, 1, 1048576, 1048576, 1}, {LARGEST, 1, 0, 1048576, 0}},
+    };
+    for (size_t i = 0; i < sizeof accepted / sizeof accepted[0]; i++) {
+        check_regular(accepted[i].example, accepted[i].segment, 0, accepted[i].shown);
+    }
+    for (size_t i = 0; i < REFUSED_SEGMENT_COUNT; i++) {
+        check_regular(REFUSED_SEGMENTS[i].example, REFUSED_SEGMENTS[i].segment, REFUSED_SEGMENTS[i].refusal, NULL);
+    }
+}
+
+static void check_fine_searches(void) {
+    static const struct {
+        const char *example;
+        struct segment segment;
+        uint64_t shown[6]; /* count, index, part, distance, argument, verdict */
+    } accepted[] = {
+        {"P1, count 1", {45, 14, 44, 1, 1}, {1, 0, 0, 44, 0, 1}},
+        {"P1, count 2", {45, 14, 44, 2, 1}, {2, 0, 1, 30, 1, 1}},
+        {"P1, count 3", {45, 14, 44, 3, 1}, {3, 0, 2, 16, 2, 1}},
+        {"P1, count 4", {45, 14, 44, 4, 1}, {4, 1, 0, 2, 3, 1}},
+        {"P1, count 5", {45, 14, 44, 5, 1}, {7, 1, 1, 2, 3, 1}},
+        {"P1, count 7", {45, 14, 44, 7, 1}, {7, 1, 1, 2, 3, 1}},
+        {"P1, count 10", {45, 14, 44, 10, 1}, {10, 1, 2, 2, 3, 1}},
+        {"P1, count 13", {45, 14, 44, 13, 1}, {13, 1, 3, 2, 3, 1}},
+        {"P1, count 16", {45, 14, 44, 16, 1}, {16, 2, 0, 2, 3, 1}},
+        {"P1, count 29", {45, 14, 44, 29, 1}, {29, 3, 0, 0, 16, 0}},
+        {"P1, count 45", {45, 14, 44, 45, 1}, {45, 3, 1, 0, 16, 0}},
+        {"P1, count 46", {45, 14, 44, 46, 1}, {45, 3, 1, 0, 16, 0}},
+        {"P4", {45, 14, 8, 5, 1}, {7, 1, 1, 8, 0, 1}},
+        {"P5, window 9", {45, 0, 9, 1048576, 9}, {1, 0, 0, 9, 0, 1}},
+        {"P5, window 10", {45, 0, 9, 1048576, 10}, {1, 0, 0, 9, 0, 0}},
+        {"P6, window 14", {45, 15, 44, 10, 14}, {3, 0, 2, 14, 2, 1}},
+        {"P6, window 15", {45, 15, 44, 10, 15}, {3, 0, 2, 14, 2, 0}},
+        {"P7", {45, 44, 0, 3, 1}, {3, 1, 1, 0, 0, 0}},
+        {"P8, window 44", {45, 14, 44, 1, 44}, {1, 0, 0, 44, 0, 1}},
+        {"P8, window M", {45, 14, 44, 1, 45}, {1, 0, 0, 44, 0, 0}},
+        {"window 0", {45, 14, 44, 17, 0}, {29, 3, 0, 0, 16, 1}},
+        {"window M", {45, 14, 44, 16, 45}, {16, 2, 0, 2, 3, 0}},
+        {"modulus 2", {2, 0, 0, 1, 0}, {1, 0, 0, 0, 0, 1}},
+        {"modulus 2^62, window 2^62 - 1", {LARGEST, 1, LARGEST - 1, 1, LARGEST - 1}, {1, 0, 0, LARGEST - 1, 0, 1}},
+        {"modulus 2^62, window 2^62", {LARGEST, 1, LARGEST - 1, 1, LARGEST}, {1, 0, 0, LARGEST - 1, 0, 0}},
+        {"modulus 2^62, count 1048576", {LARGEST, 1, 1048576, 1048576, 1}, {1048576, 0, 1048575, 1, 1048575, 1}},
+    };
+    for (size_t i = 0; i < sizeof accepted / sizeof accepted[0]; i++) {
+        check_fine(accepted[i].example, accepted[i].segment, 0, accepted[i].shown);
+    }
+    for (size_t i = 0; i < REFUSED_SEGMENT_COUNT; i++) {
+        check_fine(REFUSED_SEGMENTS[i].example, REFUSED_SEGMENTS[i].segment, REFUSED_SEGMENTS[i].refusal, NULL);
+    }
+}
+
+/* ---- the scan of a segment ---- */
+
+static void check_scan_into(struct lent list, const char *example, struct segment s, uint32_t refusal,
+                            const uint32_t hard[], uint64_t listed) {
+    struct lent has[2] = {list, fresh("listed", 8, 1)};
+    struct lent wanted[2] = {has[0], has[1]};
+    if (refusal == 0) {
+        set(&wanted[0], hard, listed);
+        set(&wanted[1], &listed, 1);
+    }
+    uint32_t number =
+        geyserdish_scan_segment(s.modulus, s.step, s.start, s.count, s.window, lend(&has[0]), list.places, lend(&has[1]));
+    count_check("scan", with_places(example, list.places).line, number, refusal, has, wanted, 2);
+}
+
+/* With as many places as there are hard arguments, with more, and with one too few. */
+static void check_scan(const char *example, struct segment s, const uint32_t hard[], uint64_t listed) {
+    check_scan_into(fresh("list", 4, listed), example, s, 0, hard, listed);
+    check_scan_into(fresh("list", 4, listed + 3), example, s, 0, hard, listed);
+    if (listed > 0) {
+        check_scan_into(fresh("list", 4, listed - 1), example, s, 7, NULL, 0);
+    }
+}
+
+static void check_scans(void) {
+    static const struct {
+        const char *example;
+        struct segment segment;
+        uint64_t listed;
+        uint32_t hard[16];
+    } accepted[] = {
+        {"P9, window 6", {45, 14, 44, 16, 6}, 2, {3, 6}},
+        {"P9, window 3", {45, 14, 44, 16, 3}, 1, {3}},
+        {"P9, window 0", {45, 14, 44, 16, 0}, 0, {0}},
+        {"window M", {45, 14, 44, 16, 45}, 16, {0, 1, 2, 3, 4, 5, 6, 7, 8, 9, 10, 11, 12, 13, 14, 15}},
+        {"modulus 2", {2, 0, 0, 1, 1}, 1, {0}},
+        {"modulus 2^62, window 2^62 - 1", {LARGEST, 1, LARGEST - 1, 1, LARGEST - 1}, 0, {0}},
+        {"modulus 2^62, window 2^62", {LARGEST, 1, LARGEST - 1, 1, LARGEST}, 1, {0}},
+        {"modulus 2^62, count 1048576", {LARGEST, 1, 1048575, 1048576, 1}, 1, {1048575}},
+        {"P5's segment, window 9", {45, 0, 9, 1048576, 9}, 0, {0}},
+    };
+    for (size_t i = 0; i < sizeof accepted / sizeof accepted[0]; i++) {
+        check_scan(accepted[i].example, accepted[i].segment, accepted[i].hard, accepted[i].listed);
+    }
+    check_scan_into(fresh("list", 4, 16), "P5's segment, window 10", (struct segment){45, 0, 9, 1048576, 10}, 7, NULL, 0);
+    for (size_t i = 0; i < REFUSED_SEGMENT_COUNT; i++) {
+        struct lent list = fresh("list", 4, 4);
+        check_scan_into(list, REFUSED_SEGMENTS[i].example, REFUSED_SEGMENTS[i].segment, REFUSED_SEGMENTS[i].refusal, NULL, 0);
+    }
+    check_scan_into(nowhere(), "P9, window 0, null", (struct segment){45, 14, 44, 16, 0}, 0, NULL, 0);
+    check_scan_into(nowhere(), "P9, window 3, null", (struct segment){45, 14, 44, 16, 3}, 7, NULL, 0);
+    check_scan_into(nowhere(), "count 0, null", (struct segment){45, 14, 44, 0, 3}, 4, NULL, 0);
+}
+
+/* ---- the search of a domain ---- */
+
+struct domain {
+    uint64_t modulus, value, slope;
+    int64_t curve;
+    uint64_t count, window;
+};
+
+struct answer {
+    uint8_t marks[8];
+    uint64_t searched[2]; /* 1 for cleared or 0 for possible, how many are hard */
+    uint32_t hard[16];
+};
+
+static void check_domain_into(struct lent list, const char *example, struct domain d, uint32_t refusal,
+                              const struct answer *answer) {
+    struct lent has[3] = {list, fresh("marks", 1, 8), fresh("searched", 8, 2)};
+    struct lent wanted[3] = {has[0], has[1], has[2]};
+    if (refusal == 0) {
+        set(&wanted[0], answer->hard, answer->searched[1]);
+        set(&wanted[1], answer->marks, 8);
+        set(&wanted[2], answer->searched, 2);
+    }
+    uint32_t number = geyserdish_search_domain(d.modulus, d.value, d.slope, d.curve, d.count, d.window, lend(&has[0]),
+                                               list.places, lend(&has[1]), lend(&has[2]));
+    count_check("domain", with_places(example, list.places).line, number, refusal, has, wanted, 3);
+}
+
+/* With as many places as there are hard arguments, with more, and with one too few. */
+static void check_domain(const char *example, struct domain d, const struct answer *answer) {
+    uint64_t listed = answer->searched[1];
+    check_domain_into(fresh("list", 4, listed), example, d, 0, answer);
+    check_domain_into(fresh("list", 4, listed + 3), example, d, 0, answer);
+    if (listed > 0) {
+        check_domain_into(fresh("list", 4, listed - 1), example, d, 7, NULL);
+    }
+}
+
+/*
+ * What J and P11 leave open. With curve 0 the covering segment has the domain's values as its residues: it is clear for window 0 and
+ * possible for window M. So it is for a part with one argument. With value 1 and slope 0 the values are 1, 1, 2, 4, 7, .. for curve 1
+ * and 1, 1, 0, 43, 40, .. for curve -1; with count 8 and window 1 the covering segment has step 0, window 1 + 28, and start 1 + 28 for
+ * curve 1 but 1 for curve -1. With curve 1048576 or -1048576 its window is M.
+ */
+static void check_accepted_domains(void) {
+    static const struct {
+        const char *example;
+        struct domain domain;
+        struct answer answer;
+    } accepted[] = {
+        {"J", {45, 44, 31, 0, 16, 3}, {{1, 2, 1, 1, 1, 1, 1, 1}, {0, 1}, {3}}},
+        {"P11, curve 1", {45, 0, 0, 1, 8, 1}, {{2, 2, 1, 1, 1, 1, 1, 1}, {0, 2}, {0, 1}}},
+        {"P11, curve -1", {45, 0, 0, -1, 8, 1}, {{2, 2, 1, 1, 1, 1, 1, 1}, {0, 2}, {0, 1}}},
+        {"value 1, curve 1", {45, 1, 0, 1, 8, 1}, {{0, 0, 0, 0, 0, 0, 0, 0}, {1, 0}, {0}}},
+        {"value 1, curve -1", {45, 1, 0, -1, 8, 1}, {{1, 1, 2, 1, 1, 1, 1, 1}, {0, 1}, {2}}},
+        {"J with window 0", {45, 44, 31, 0, 16, 0}, {{0, 0, 0, 0, 0, 0, 0, 0}, {1, 0}, {0}}},
+        {"J with window M",
+         {45, 44, 31, 0, 16, 45},
+         {{2, 2, 2, 2, 2, 2, 2, 2}, {0, 16}, {0, 1, 2, 3, 4, 5, 6, 7, 8, 9, 10, 11, 12, 13, 14, 15}}},
+        {"modulus 2", {2, 0, 0, 0, 8, 1}, {{2, 2, 2, 2, 2, 2, 2, 2}, {0, 8}, {0, 1, 2, 3, 4, 5, 6, 7}}},
+        {"modulus 2^62, window 2^62 - 1",
+         {LARGEST, LARGEST - 1, 0, 0, 8, LARGEST - 1},
+         {{0, 0, 0, 0, 0, 0, 0, 0}, {1, 0}, {0}}},
+        {"modulus 2^62, window 2^62",
+         {LARGEST, LARGEST - 1, 0, 0, 8, LARGEST},
+         {{2, 2, 2, 2, 2, 2, 2, 2}, {0, 8}, {0, 1, 2, 3, 4, 5, 6, 7}}},
+        {"curve 1048576", {45, 0, 0, 1048576, 8, 0}, {{1, 1, 1, 1, 1, 1, 1, 1}, {0, 0}, {0}}},
+        {"curve -1048576", {45, 0, 0, -1048576, 8, 0}, {{1, 1, 1, 1, 1, 1, 1, 1}, {0, 0}, {0}}},
+        {"count 1048576", {45, 9, 0, 0, 1048576, 9}, {{0, 0, 0, 0, 0, 0, 0, 0}, {1, 0}, {0}}},
+    };
+    for (size_t i = 0; i < sizeof accepted / sizeof accepted[0]; i++) {
+        check_domain(accepted[i].example, accepted[i].domain, &accepted[i].answer);
+    }
+}
+
+static void check_refused_domains(void) {
+    static const struct {
+        const char *example;
+        struct domain domain;
+        uint32_t refusal;
+    } refused[] = {
+        {"modulus 1", {1, 0, 0, 0, 16, 0}, 1},
+        {"modulus 2^62 + 1", {LARGEST + 1, 44, 31, 0, 16, 3}, 1},
+        {"slope M", {45, 44, 45, 0, 16, 3}, 2},
+        {"value M", {45, 45, 31, 0, 16, 3}, 3},
+        {"count 0", {45, 44, 31, 0, 0, 3}, 4},
+        {"count 12", {45, 44, 31, 0, 12, 3}, 4},
+        {"count 1048577", {45, 44, 31, 0, 1048577, 3}, 4},
+        {"count 1048584", {45, 44, 31, 0, 1048584, 3}, 4},
+        {"window M + 1", {45, 44, 31, 0, 16, 46}, 5},
+        {"curve 1048577", {45, 44, 31, 1048577, 16, 3}, 6},
+        {"curve -1048577", {45, 44, 31, -1048577, 16, 3}, 6},
+        {"curve 2^63 - 1", {45, 44, 31, INT64_MAX, 16, 3}, 6},
+        {"curve -2^63", {45, 44, 31, INT64_MIN, 16, 3}, 6},
+        {"nothing accepted", {1, 1, 1, 1048577, 12, 2}, 1},
+        {"only the modulus accepted", {45, 45, 45, 1048577, 12, 46}, 2},
+        {"only modulus and slope accepted", {45, 45, 31, 1048577, 12, 46}, 3},
+        {"window, curve and count not accepted", {45, 44, 31, 1048577, 12, 46}, 4},
+        {"window and curve not accepted", {45, 44, 31, 1048577, 16, 46}, 5},
+        {"curve and places not accepted", {45, 44, 31, 1048577, 16, 45}, 6},
+        {"count 1048576, window 10", {45, 9, 0, 0, 1048576, 10}, 7},
+    };
+    for (size_t i = 0; i < sizeof refused / sizeof refused[0]; i++) {
+        check_domain_into(fresh("list", 4, 4), refused[i].example, refused[i].domain, refused[i].refusal, NULL);
+    }
+}
+
+static void check_domains_without_list(void) {
+    const struct answer cleared = {{0}, {1, 0}, {0}};
+    check_domain_into(nowhere(), "J with window 0, null", (struct domain){45, 44, 31, 0, 16, 0}, 0, &cleared);
+    check_domain_into(nowhere(), "J, null", (struct domain){45, 44, 31, 0, 16, 3}, 7, NULL);
+    check_domain_into(nowhere(), "count 12, null", (struct domain){45, 44, 31, 0, 12, 3}, 4, NULL);
+}
+
+/* ---- the range of a list ---- */
+
+static void check_range(struct lent list, const char *example, uint32_t lo, uint32_t hi, uint64_t start, uint64_t count) {
+    struct lent has[2] = {list, fresh("start", 8, 1)};
+    struct lent wanted[2] = {has[0], has[1]};
+    set(&wanted[1], &start, 1);
+    uint64_t number = geyserdish_range(lend(&has[0]), list.places, lo, hi, lend(&has[1]));
+    count_check("range", example, number, count, has, wanted, 2);
+}
+
+static void check_ranges(void) {
+    static const struct {
+        const char *example;
+        size_t places;
+        uint32_t entries[12];
+        uint32_t lo, hi;
+        uint64_t start, count;
+    } examples[] = {
+        {"3 6 9 from 0 to 10", 3, {3, 6, 9}, 0, 10, 0, 3},
+        {"3 6 9 from 0 to 2^32 - 1", 3, {3, 6, 9}, 0, UINT32_MAX, 0, 3},
+        {"3 6 9 from 3 to 9", 3, {3, 6, 9}, 3, 9, 0, 2},
+        {"3 6 9 from 4 to 9", 3, {3, 6, 9}, 4, 9, 1, 1},
+        {"3 6 9 from 4 to 10", 3, {3, 6, 9}, 4, 10, 1, 2},
+        {"3 6 9 from 7 to 8", 3, {3, 6, 9}, 7, 8, 2, 0},
+        {"3 6 9 from 6 to 6", 3, {3, 6, 9}, 6, 6, 1, 0},
+        {"3 6 9 from 0 to 3", 3, {3, 6, 9}, 0, 3, 0, 0},
+        {"3 6 9 from 10 to 20", 3, {3, 6, 9}, 10, 20, 3, 0},
+        {"3 6 9 from 9 to 4, lo above hi", 3, {3, 6, 9}, 9, 4, 0, 0},
+        {"3 6 9 from 2^32 - 1 to 10, lo above hi", 3, {3, 6, 9}, UINT32_MAX, 10, 0, 0},
+        {"3 6 6 9 from 6 to 10, equal neighbours", 4, {3, 6, 6, 9}, 6, 10, 0, 0},
+        {"3 9 6 from 4 to 10, descends", 3, {3, 9, 6}, 4, 10, 0, 0},
+        {"9 6 3 from 4 to 10, descends", 3, {9, 6, 3}, 4, 10, 0, 0},
+        {"5 from 5 to 6", 1, {5}, 5, 6, 0, 1},
+        {"0 and 2^32 - 1 from 0 to 2^32 - 1", 2, {0, UINT32_MAX}, 0, UINT32_MAX, 0, 1},
+        {"0 and 2^32 - 1 from 1 to 2^32 - 1", 2, {0, UINT32_MAX}, 1, UINT32_MAX, 1, 0},
+        {"10 to 120 by tens, from 35 to 95", 12, {10, 20, 30, 40, 50, 60, 70, 80, 90, 100, 110, 120}, 35, 95, 3, 6},
+        {"10 to 110 by tens and 110, from 35 to 95", 12, {10, 20, 30, 40, 50, 60, 70, 80, 90, 100, 110, 110}, 35, 95, 0, 0},
+        {"no entries", 0, {0}, 0, 10, 0, 0},
+    };
+    for (size_t i = 0; i < sizeof examples / sizeof examples[0]; i++) {
+        struct lent list = fresh("list", 4, examples[i].places);
+        set(&list, examples[i].entries, examples[i].places);
+        check_range(list, examples[i].example, examples[i].lo, examples[i].hi, examples[i].start, examples[i].count);
+    }
+    check_range(nowhere(), "no entries, null", 0, 10, 0, 0);
+}
+
+int main(void) {
+    check_expansions();
+    check_regular_searches();
+    check_fine_searches();
+    check_scans();
+    check_accepted_domains();
+    check_refused_domains();
+    check_domains_without_list();
+    check_ranges();
+    printf("%d passed, %d failed\n", passed, failed);
+    return failed == 0 ? 0 : 1;
+}
