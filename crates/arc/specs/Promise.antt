@@ -10,7 +10,7 @@ use Rattle.expansion.specs.Reached.{Search}
 use Rattle.segment.specs.Accepted as segment
 use Rattle.segment.specs.Search.{verdict}
 use Rattle.segment.specs.declared.Verdict.the-variants.{Clear}
-use Rattle.parabola.specs.Parabola.{Hard, In-range, covering}
+use Rattle.parabola.specs.Parabola.{In-range, value-at, covering}
 use Rattle.arc.specs.Arc.{parabola, refusal, point-answer, arc-verdict}
 use Rattle.arc.specs.declared.Arc.{Arc}
 use Rattle.arc.specs.declared.PointAnswer.the-variants.{Outside, At}
@@ -41,7 +41,8 @@ pub record Arc-correct (a : Arc) : Type 0 where
   -- within the bounds a verdict is that of a search of the covering segment, which is accepted; clear leaves no hard argument
   pub covering-accepted : In-range (parabola a) → segment.Accepted (covering (parabola a))
   pub verdict-is : (k : Search) → In-range (parabola a) → arc-verdict k a ≡ verdict k (covering (parabola a))
-  pub clear : (k : Search) → arc-verdict k a ≡ Clear → In-range (parabola a) × ((x : ℕ) → Hard (parabola a) x → ⊥)
+  pub clear : (k : Search) → arc-verdict k a ≡ Clear
+      → In-range (parabola a) × ((x : ℕ) → (x < a .count) × (value-at (parabola a) x < a .window) → ⊥)
 
 pub record Promised : Type 0 where
   pub arcs : (a : Arc) → Arc-correct a

@@ -1,13 +1,13 @@
 -- The configurations of every step below a modulus, in closed form: the two records of specs/Promise.antt on them.
 -- Assumes nothing.
 use mathlib.Core.Path.{_≡_, refl, sym, _∙_, ap}
-use mathlib.Core.List.{[], _∷_, List·Memᴰ, Memᴰ·cast}
+use mathlib.Core.List.{List, [], _∷_, List·Memᴰ, Memᴰ·cast}
 use mathlib.Core.Logic.{⊎-elim}
-use Prim.Native.Nat.{ℕ, suc, _+_, _-_, _*_, _<_}
+use Prim.Native.Nat.{ℕ, zero, suc, _+_, _-_, _*_, _<_}
 use native.Mathlib.Nat.{eq-zero-or-pos, zero-add}
 use native.Mathlib.Omega.{arith}
 use borrow.Author.Tests.{ne-eqb}
-use lib.ListN.{length, getD}
+use lib.ListN.{length, getD, length-map}
 use Rattle.numbers.proofs.Remainders.{quotient-positive}
 use Rattle.numbers.proofs.Lists.{Ascending-from, ascending}
 use Rattle.numbers.proofs.Lists.Ascending-from.{ascending-nil, ascending-cons}
@@ -19,6 +19,22 @@ use Rattle.expansion.proofs.Recurrences.{kept-first, several-rows}
 use Rattle.expansion.proofs.Regular.{last-of, relabelled, regular-many, regular-at, regular-final, regular-ascend}
 use Rattle.expansion.proofs.Fine.{fine-ascend, fine-has, fine-only, fine-first, fine-final}
 use Rattle.expansion.proofs.RowLaws.{last-index, kept, beside, second-row}
+
+-- configurations whose counts ascend from a bound on ascend place by place
+count-at : (cs : List Configuration) (i : ℕ) → getD (counts cs) i 0 ≡ getD cs i none .count
+count-at [] i = refl
+count-at (c ∷ cs) zero = refl
+count-at (c ∷ cs) (suc i) = count-at cs i
+
+counts-ascend : {n : ℕ} (cs : List Configuration) → Ascending-from n (counts cs)
+    → (i j : ℕ) → i < j → j < length cs → getD cs i none .count < getD cs j none .count
+counts-ascend cs a i j h l =
+    omega (
+      arith,
+      ascending a i j h (omega (arith, l, length-map cs (λ (c : Configuration). c .count))),
+      count-at cs i,
+      count-at cs j,
+    )
 
 module _ (M a : ℕ) (small : a < M) where
   regular-of-zero : a ≡ 0 → regular M a ≡ configuration 1 0 0 ∷ []
@@ -88,7 +104,7 @@ module _ (M a : ℕ) (small : a < M) where
             ⊎-elim (λ e. rw (regular-of-zero e))
             (λ h. regular-of-row 0 (second-row M a small h) ∙ relabelled (omega (arith, first-row (expansion-unrolled M a) .1)) refl refl)
             (eq-zero-or-pos a);
-        ascend = ascending regular-ascends;
+        ascend = counts-ascend (regular M a) regular-ascends;
         among-fine = λ i l. Memᴰ·cast (regular-of-row i l ∙ relabelled (omega arith) refl refl) (fine-has-correct i 0 l (quotient-some i l));
         last-among-fine = ⊎-elim (λ e. rw (sym last-regular, regular-of-zero e, fine-of-zero e)) (λ h. rw (regular-last, fine-last h)) (eq-zero-or-pos a);
         of-zero = regular-of-zero;
@@ -105,6 +121,6 @@ module _ (M a : ℕ) (small : a < M) where
             (omega (arith, b .within, last-index M a), b .below, ap (λ (x : Configuration). x .count) (b .is));
         last-one = fine-last;
         first-one = ⊎-elim (λ e. rw (fine-of-zero e)) (λ h. rw (fine-of-rows h) (fine-first (expansion-unrolled M a) small h 0)) (eq-zero-or-pos a);
-        ascend = ascending fine-ascends;
+        ascend = counts-ascend (fine M a) fine-ascends;
         of-zero = fine-of-zero;
       }

@@ -1,4 +1,5 @@
 -- All that is promised of the expansion. Assumes nothing.
+use mathlib.Core.Path.{refl}
 use Rattle.expansion.specs.Promise.{Promised}
 use Rattle.expansion.proofs.RowLaws.{rows-correct, rows-few}
 use Rattle.expansion.proofs.Period.{period-correct}
@@ -12,6 +13,7 @@ promised =
       rows = rows-correct;
       few = rows-few;
       period = period-correct;
+      configuration-is = λ n i t. (refl, refl, refl);
       regular = regular-correct;
       fine = fine-correct;
       searches = searches-correct;

@@ -9,7 +9,7 @@ use Rattle.numbers.specs.Checklist.{Condition, condition, Refused-by}
 use Rattle.numbers.specs.Divisors.{gcd}
 use Rattle.numbers.specs.Promise.{Greatest-common-divisor}
 use Rattle.expansion.specs.Rows.{expansion, last, remainder-at, denominator-at, quotient-at, remainder-before, denominator-before, period}
-use Rattle.expansion.specs.Configurations.{Configuration, configuration, none, counts, regular, fine}
+use Rattle.expansion.specs.Configurations.{Configuration, configuration, none, regular, fine}
 use Rattle.expansion.specs.Reached.{Search, configurations-of, reached}
 use Rattle.expansion.specs.Reached.Search.{regular as regular-search, fine as fine-search}
 use Rattle.expansion.specs.Answer.{refusal, answer}
@@ -67,7 +67,7 @@ pub record Regular-correct (M a : ℕ) : Type 0 where
   pub of-row : (i : ℕ) → i < last M a → getD (regular M a) i none ≡ configuration (denominator-at M a i + denominator-before M a i) i 0
   pub last-one : getD (regular M a) (last M a) none ≡ configuration (period M a) (last M a) 0
   pub first-one : getD (regular M a) 0 none ≡ configuration 1 0 0
-  pub ascend : (i j : ℕ) → i < j → j < length (counts (regular M a)) → getD (counts (regular M a)) i 0 < getD (counts (regular M a)) j 0
+  pub ascend : (i j : ℕ) → i < j → j < length (regular M a) → getD (regular M a) i none .count < getD (regular M a) j none .count
   -- each before the last is a fine one, of the label (i, 0); the last has the count of the last fine one
   pub among-fine : (i : ℕ) → i < last M a → List·Memᴰ (getD (regular M a) i none) (fine M a)
   pub last-among-fine : getD (regular M a) (last M a) none .count ≡ getD (fine M a) (length (fine M a) - 1) none .count
@@ -85,7 +85,7 @@ pub record Fine-correct (M a : ℕ) : Type 0 where
   pub last-one : 0 < a
       → getD (fine M a) (length (fine M a) - 1) none ≡ configuration (period M a) (last M a - 1) (quotient-at M a (last M a - 1) - 1)
   pub first-one : getD (fine M a) 0 none ≡ configuration 1 0 0
-  pub ascend : (i j : ℕ) → i < j → j < length (counts (fine M a)) → getD (counts (fine M a)) i 0 < getD (counts (fine M a)) j 0
+  pub ascend : (i j : ℕ) → i < j → j < length (fine M a) → getD (fine M a) i none .count < getD (fine M a) j none .count
   -- where the step is 0, the one of a single point
   pub of-zero : a ≡ 0 → fine M a ≡ configuration 1 0 0 ∷ []
 
@@ -99,7 +99,7 @@ pub record Reached-correct (configurations : List Configuration) (period N : ℕ
   pub within : c .count ≤ period
 
 -- both searches: each reaches one of its own configurations; a regular one is labelled by its index alone, at most 29 for up to 1,048,576 points;
--- fewer points are reached for a smaller count, and by the fine search no more than by either
+-- no more points are reached for a smaller count, and by the fine search no more than by either
 pub record Searches-correct (M a : ℕ) : Type 0 where
   pub regular-ones : configurations-of regular-search M a ≡ regular M a
   pub fine-ones : configurations-of fine-search M a ≡ fine M a
@@ -143,6 +143,8 @@ pub record Promised : Type 0 where
   pub rows : (M a : ℕ) → a < M → Rows-correct M a
   pub few : (M a : ℕ) → a < M → Rows-few M a
   pub period : (M a : ℕ) → a < M → Period-correct M a
+  -- a configuration has the count and the label that it is made of
+  pub configuration-is : (n i t : ℕ) → (configuration n i t .count ≡ n) × (configuration n i t .index ≡ i) × (configuration n i t .part ≡ t)
   pub regular : (M a : ℕ) → a < M → Regular-correct M a
   pub fine : (M a : ℕ) → a < M → Fine-correct M a
   pub searches : (M a : ℕ) → a < M → Searches-correct M a

@@ -19,7 +19,7 @@ rows-from zero t u p q = []
 rows-from (suc n) t zero p q = row 0 q 0 ∷ []
 rows-from (suc n) t (suc u) p q = row (suc u) q (t / suc u) ∷ rows-from n (suc u) (t % suc u) q (p + t / suc u * q)
 
--- the rows that are still to come where a program holds these numbers
+-- the rows from the one on that has these numbers, with fuel enough
 abbrev pub rows : (before remainder denominator-before denominator : ℕ) → List Row
 rows t u p q = rows-from (suc u) t u p q
 

@@ -72,7 +72,7 @@ pub record Output-correct : Type 0 where
   pub marked : (d : Domain) (first : Verdict) (listed : ℕ) → answer-of d ≡ Searched first listed → Marks-correct (parabola-of d) first (marks (parabola-of d))
   pub hard : (d : Domain) (first : Verdict) (listed : ℕ) → answer-of d ≡ Searched first listed
       → Enumerates (Hard-in-numbers d) listed (hard-list (parabola-of d))
-  -- what is printed fits the buffer, stands at its front, and leaves every place after it as it was
+  -- what is printed fits a buffer of 69,674 bytes; over the front of one it leaves every place after it as it was
   pub fits : (t : List ℕ) → length (output-of t) ≤ 69674
   pub buffer : (t old : List ℕ) → length old ≡ 69674 → Buffer-correct (output-of t) old (overwrite-front (output-of t) old)
   -- the program need not read more than 4,096 bytes

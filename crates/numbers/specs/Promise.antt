@@ -7,7 +7,7 @@ use mathlib.Core.Logic.{_↔_}
 use Prim.Native.Nat.{ℕ, suc, _+_, _^_, _≤_, _<_, _∣_}
 use lib.IntN.{ℤ, pos, negsuc, _+ℤ_, _*ℤ_}
 use lib.ListN.{length, getD}
-use Rattle.numbers.specs.Checklist.{Condition, Check, condition, conditions, first-failing, All-hold, Refused-by, Numbered, unless-refused}
+use Rattle.numbers.specs.Checklist.{Condition, Check, condition, check, conditions, first-failing, All-hold, Refused-by, Numbered, unless-refused}
 use Rattle.numbers.specs.Integers.{_modulo_}
 use Rattle.numbers.specs.Lists.{joined, overwrite-front, place-after}
 
@@ -18,6 +18,8 @@ pub record Conditions-correct : Type 1 where
   pub none : (n : ℕ) → Refused-by [] n → ⊥
   pub fails : (k n : ℕ) (P : Type 0) (cs : List Condition) → (P → ⊥) → Refused-by (condition k P ∷ cs) n ↔ (n ≡ k)
   pub passes : (k n : ℕ) (P : Type 0) (cs : List Condition) → P → Refused-by (condition k P ∷ cs) n ↔ Refused-by cs n
+  pub checks-none : conditions [] ≡ []
+  pub checks-more : (k : ℕ) {P : Type 0} (d : Dec P) (cs : List Check) → conditions (check k d ∷ cs) ≡ condition k P ∷ conditions cs
   pub nothing-asked : All-hold []
   pub all-hold : (k : ℕ) (P : Type 0) (cs : List Condition) → All-hold (condition k P ∷ cs) ↔ (P × All-hold cs)
   pub nothing-numbered : Numbered []
@@ -30,8 +32,7 @@ pub record Checklist-correct (cs : List Check) : Type 1 where
 
 -- ---- integers
 
--- the remainder of an integer is the number from 0 to M - 1 that differs from it by a multiple of M. By 0 nothing is taken off, and a negative number
--- leaves 0
+-- the remainder of an integer is the number from 0 to M - 1 that differs from it by a multiple of M
 pub record Remainder-correct (z : ℤ) (M : ℕ) : Type 0 where
   pub in-range : 0 < M → z modulo M < M
   pub multiple : 0 < M → (k : ℤ) × (z ≡ pos (z modulo M) +ℤ k *ℤ pos M)
@@ -80,5 +81,6 @@ pub record Promised : Type 1 where
   pub conditions-are : Conditions-correct
   pub checklists : (cs : List Check) → Checklist-correct cs
   pub remainders : (z : ℤ) (M : ℕ) → Remainder-correct z M
+  -- by 0 nothing is taken off, and a negative number leaves 0
   pub remainders-by-zero : (n : ℕ) → (pos n modulo 0 ≡ n) × (negsuc n modulo 0 ≡ 0)
   pub buffers : Buffers-correct

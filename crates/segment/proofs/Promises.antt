@@ -14,7 +14,8 @@ use Rattle.segment.specs.Accepted.{asked, checks, refusal, Accepted}
 use Rattle.segment.specs.Search.{reached-in, argument, distance, verdict}
 use Rattle.segment.specs.Answer.{regular-shown, fine-shown, regular-answer-with, fine-answer-with, regular-answer, fine-answer}
 use Rattle.segment.specs.Promise.{Refused-for, Regular-answer-correct, Fine-answer-correct, Regular-clears, Fine-clears, Cleared, Smaller-cleared, Fine-reaches-no-more, Verdicts-correct, Promised}
-use Rattle.segment.specs.declared.Verdict.the-variants.{Clear}
+use Rattle.segment.specs.declared.Verdict.{Verdict}
+use Rattle.segment.specs.declared.Verdict.the-variants.{Clear, Possible}
 use Rattle.segment.specs.declared.RegularAnswer.the-variants as regular-variants
 use Rattle.segment.specs.declared.FineAnswer.the-variants as fine-variants
 use Rattle.segment.proofs.Answers.{accepted, refused-for, regular-refused, fine-refused}
@@ -123,8 +124,15 @@ verdicts k M a b N w c =
     record {
       answered = cleared-iff k M a b N w c;
       by-distance = verdict-iff (distance k (asked M a b N w)) w .0;
+      possible = verdict-iff (distance k (asked M a b N w)) w .1;
+      distance-of = unfold distance in (argument k (asked M a b N w), argument-below k (c .searchable), refl);
+      distance-least = distance-least k (c .searchable);
       none-hard = λ e. cleared-none k (c .searchable) (verdict-iff (distance k (asked M a b N w)) w .0 .0 e);
     }
+
+two-verdicts : (v : Verdict) → (v ≡ Clear) ⊎ (v ≡ Possible)
+two-verdicts Clear = inl refl
+two-verdicts Possible = inr refl
 
 pub promised : Promised
 promised =
@@ -142,4 +150,5 @@ promised =
       smaller = smaller;
       no-more = no-more;
       verdicts = verdicts;
+      two-verdicts = two-verdicts;
     }

@@ -3,7 +3,7 @@
 use mathlib.Core.Path.{_≡_}
 use mathlib.Core.Bool.{true, false}
 use mathlib.Core.List.{List, [], _∷_, List·Memᴰ}
-use mathlib.Core.Logic.{_↔_}
+use mathlib.Core.Logic.{_↔_, _⊎_}
 use Prim.Native.Nat.{ℕ, suc, _+_, _^_, _≤_, _<_}
 use Rattle.numbers.specs.Checklist.{Condition, condition, Refused-by}
 use Rattle.expansion.specs.Rows.{period}
@@ -124,10 +124,14 @@ Fine-reaches-no-more =
     (M a b N w : ℕ) (r : Regular) (f : Fine) → regular-answer M a b N w ≡ regular-variants.Shown r → fine-answer M a b N w ≡ fine-variants.Shown f
     → f .count ≤ r .count
 
--- the verdict of a search of an accepted segment is the one that it answers, and clears it exactly where the distance is at least the window
+-- the verdict of a search of an accepted segment is clear exactly where the search clears it, which is where the distance is at least the window, and
+-- else possible; the distance is the least residue below the count reached
 pub record Verdicts-correct (k : Search) (M a b N w : ℕ) : Type 0 where
   pub answered : (verdict k (asked M a b N w) ≡ Clear) ↔ Cleared k M a b N w
   pub by-distance : (verdict k (asked M a b N w) ≡ Clear) ↔ (w ≤ distance k (asked M a b N w))
+  pub possible : (verdict k (asked M a b N w) ≡ Possible) ↔ (distance k (asked M a b N w) < w)
+  pub distance-of : (x : ℕ) × (x < reached k M a N .count) × (residue (asked M a b N w) x ≡ distance k (asked M a b N w))
+  pub distance-least : (x : ℕ) → x < reached k M a N .count → distance k (asked M a b N w) ≤ residue (asked M a b N w) x
   pub none-hard : verdict k (asked M a b N w) ≡ Clear → (x : ℕ) → x < N → w ≤ residue (asked M a b N w) x
 
 -- a statement of the segment of five numbers, written out
@@ -153,3 +157,5 @@ pub record Promised : Type 0 where
   pub smaller : Smaller-cleared
   pub no-more : Fine-reaches-no-more
   pub verdicts : (k : Search) (M a b N w : ℕ) → for-segment Accepted M a b N w → Verdicts-correct k M a b N w
+  -- there is no third verdict
+  pub two-verdicts : (v : Verdict) → (v ≡ Clear) ⊎ (v ≡ Possible)

@@ -63,12 +63,12 @@ pub record Cuttable (cuts : ℕ) (s : State) : Type 0 where
   pub below : s .argument < points s
   pub fits : points s + cuts * s .longs ≤ 2 ^ 62
 
--- what is passed with the cuts is as it should be
+-- these cuts can be made, and what is said to be left of a long gap is what they leave
 pub record Cutting (c : Cuts) (s : State) : Type 0 where
   pub able : Cuttable (c .number) s
   pub rest-is : c .rest ≡ s .long - c .number * s .short
 
--- all cuts can be made, one at least, and another row fits the budget
+-- all cuts can be made, and another row fits the budget
 pub record Steppable (s : State) : Type 0 where
   pub all : Cuttable (all-cuts s) s
   pub falls : s .short ≤ s .long
@@ -142,7 +142,7 @@ in-next-row done s =
       done = done;
     }
 
--- all cuts of a row end a search: they reach N points, or they leave gaps of one length, as many as the period
+-- whether a search ends with all cuts of a row: they reach N points, or they leave gaps of one length, as many as the period
 unfoldable pub ends : (N : ℕ) → State → Bool
 ends N s = leb N (s .shorts + all-cuts s * s .longs + s .longs) || eqb (s .short) (s .long - all-cuts s * s .short)
 

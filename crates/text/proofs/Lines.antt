@@ -1,5 +1,5 @@
 -- A field is read from a place of a text exactly where its line stands there and its number is in range. Assumes nothing.
-use mathlib.Core.Path.{_≡_, ap, _∙_}
+use mathlib.Core.Path.{_≡_, refl, ap, _∙_}
 use mathlib.Core.Bool.{true, false, cond}
 use mathlib.Core.List.{List, [], _∷_, _++_, append-assoc}
 use mathlib.Core.Logic.{_↔_, ⊎-elim}
@@ -18,6 +18,8 @@ use Rattle.text.specs.Reading.{starts, number-from, field-at, unsigned, 
 use Rattle.text.specs.Promise.{Line-at, Field-correct}
 use Rattle.text.specs.declared.Found.{Found}
 use Rattle.text.specs.declared.Found.the-variants as found
+use Rattle.text.specs.declared.FoundSigned.{FoundSigned}
+use Rattle.text.specs.declared.FoundSigned.the-variants as found-signed
 use Rattle.text.specs.declared.FoundSigned.the-variants.{Number, Malformed}
 use Rattle.text.proofs.Decimals.{one-digit, more-digits, by-tenths}
 use Rattle.text.proofs.Names.{starts-itself, begins}
@@ -100,11 +102,33 @@ module _ (t : List ℕ) (at : ℕ) where
 
 -- ---- fields
 
-pub field-correct : (name t : List ℕ) (at : ℕ) → Field-correct name t at
-unfolding field-at signed-field-at
-field-correct name t at =
-    let after = at + length name in
-    record {
-      read = λ n end. field-iff name t at (decimal n) end _ no-number (number-iff t after n end);
-      signed-read = λ s end. field-iff name t at (signed-decimal s) end _ no-signed (signed-read t after, signed-reads t after s end);
-    }
+-- what is not found is malformed
+not-found : (f : Found) {P : ℕ → ℕ → Type 0} → ((n end : ℕ) → (f ≡ found.Number n end) ↔ P n end)
+    → (f ≡ found.Malformed) ↔ ((n end : ℕ) → P n end → ⊥)
+not-found (found.Number n end) r = (λ e. absurd (let z : _≡_ {A = ℕ} 0 1 = cc in omega arith), λ none. absurd (none n end (r n end .0 refl)))
+not-found found.Malformed r = (λ _ n end p. let e = r n end .1 p in absurd (let z : _≡_ {A = ℕ} 0 1 = cc in omega arith), λ _. refl)
+
+not-found-signed : (f : FoundSigned) {P : ℤ → ℕ → Type 0} → ((s : ℤ) (end : ℕ) → (f ≡ found-signed.Number s end) ↔ P s end)
+    → (f ≡ found-signed.Malformed) ↔ ((s : ℤ) (end : ℕ) → P s end → ⊥)
+not-found-signed (found-signed.Number s end) r = (λ e. absurd (let z : _≡_ {A = ℕ} 0 1 = cc in omega arith), λ none. absurd (none s end (r s end .0 refl)))
+not-found-signed found-signed.Malformed r = (λ _ s end p. let e = r s end .1 p in absurd (let z : _≡_ {A = ℕ} 0 1 = cc in omega arith), λ _. refl)
+
+module _ (name t : List ℕ) (at : ℕ) where
+  field-read : (n end : ℕ) → (field-at name at t ≡ found.Number n end) ↔ ((n < 2 ^ 64) × Line-at name (decimal n) t at end)
+  unfolding field-at
+  field-read n end = field-iff name t at (decimal n) end _ no-number (number-iff t (at + length name) n end)
+
+  signed-field-read : (s : ℤ) (end : ℕ)
+      → (signed-field-at name at t ≡ found-signed.Number s end) ↔ ((natAbs s < 2 ^ 63) × Line-at name (signed-decimal s) t at end)
+  unfolding signed-field-at
+  signed-field-read s end =
+      field-iff name t at (signed-decimal s) end _ no-signed (signed-read t (at + length name), signed-reads t (at + length name) s end)
+
+  pub field-correct : Field-correct name t at
+  field-correct =
+      record {
+        read = field-read;
+        malformed = not-found (field-at name at t) field-read;
+        signed-read = signed-field-read;
+        signed-malformed = not-found-signed (signed-field-at name at t) signed-field-read;
+      }

@@ -7,7 +7,7 @@ use Rattle.text.proofs.Lines.{field-correct}
 
 text-correct : Text-correct
 unfolding signed-decimal
-text-correct = record { nothing = refl; byte = λ c s. refl; rising = λ n. refl; falling = λ n. refl; line-is = λ name written rest. refl }
+text-correct = record { feed = refl; nothing = refl; byte = λ c s. refl; rising = λ n. refl; falling = λ n. refl; line-is = λ name written rest. refl }
 
 pub promised : Promised
 promised = record { decimals = decimal-correct; texts = text-correct; fields = field-correct }

@@ -49,14 +49,18 @@ pub record Line-at (name written t : List ℕ) (at end : ℕ) : Type 0 where
   pub text : drop at t ≡ line name written (drop end t)
   pub within : end ≤ length t
 
--- a field is read exactly where its line stands and its number is in range
+-- a field is read exactly where its line stands and its number is in range, and is malformed exactly where it is not read
 pub record Field-correct (name t : List ℕ) (at : ℕ) : Type 0 where
   pub read : (n end : ℕ) → (field-at name at t ≡ found.Number n end) ↔ ((n < 2 ^ 64) × Line-at name (decimal n) t at end)
+  pub malformed : (field-at name at t ≡ found.Malformed) ↔ ((n end : ℕ) → (n < 2 ^ 64) × Line-at name (decimal n) t at end → ⊥)
   pub signed-read : (s : ℤ) (end : ℕ) → (signed-field-at name at t ≡ found-signed.Number s end) ↔ ((natAbs s < 2 ^ 63) × Line-at name (signed-decimal s) t at end)
+  pub signed-malformed : (signed-field-at name at t ≡ found-signed.Malformed)
+      ↔ ((s : ℤ) (end : ℕ) → (natAbs s < 2 ^ 63) × Line-at name (signed-decimal s) t at end → ⊥)
 
 -- ---- texts, written out
 
 pub record Text-correct : Type 0 where
+  pub feed : line-feed ≡ 10
   pub nothing : bytes "" ≡ []
   pub byte : (c : Char) (s : String) → bytes (c then s) ≡ code c ∷ bytes s
   pub rising : (n : ℕ) → signed-decimal (pos n) ≡ decimal n
