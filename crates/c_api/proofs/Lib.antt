@@ -1,2 +1,2 @@
-pub mod Memory
+mod Memory
 pub mod Promises

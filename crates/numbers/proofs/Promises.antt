@@ -6,7 +6,7 @@ use native.Mathlib.Nat.{mod-zero}
 use native.Mathlib.Omega.{arith}
 use Rattle.numbers.specs.Checklist.{unless-refused}
 use Rattle.numbers.specs.Integers.{_modulo_}
-use Rattle.numbers.specs.Lists.{joined}
+use Rattle.numbers.specs.Lists.{count-if, joined}
 use Rattle.numbers.specs.Promise.{Conditions-correct, Buffers-correct, Promised}
 use Rattle.numbers.proofs.Checklists.{refuses, accepts}
 use Rattle.numbers.proofs.Integers.{mod-below, mod-multiple}
@@ -48,5 +48,6 @@ promised =
       checklists = λ cs. record { refuses = refuses cs; accepts = accepts cs };
       remainders = λ z M. record { in-range = λ positive. mod-below positive z; multiple = λ positive. mod-multiple positive z };
       remainders-by-zero = λ n. (mod-zero n, omega arith);
+      counts = λ p. unfold count-if in record { none-left = λ x. refl; counted = λ n x e. rw e (omega arith); passed = λ n x e. rw e (omega arith) };
       buffers = buffers-correct;
     }

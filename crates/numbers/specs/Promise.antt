@@ -2,6 +2,7 @@
 -- make. `Promised`, at the end, is all that holds here; proofs/Promises.antt proves it.
 -- Assumes nothing: these are statements.
 use mathlib.Core.Path.{_≡_}
+use mathlib.Core.Bool.{Bool, true, false}
 use mathlib.Core.List.{List, [], _∷_, _++_, List·Memᴰ}
 use mathlib.Core.Logic.{_↔_}
 use Prim.Native.Nat.{ℕ, suc, _+_, _^_, _≤_, _<_, _∣_}
@@ -9,7 +10,7 @@ use lib.IntN.{ℤ, pos, negsuc, _+ℤ_, _*ℤ_}
 use lib.ListN.{length, getD}
 use Rattle.numbers.specs.Checklist.{Condition, Check, condition, check, conditions, first-failing, All-hold, Refused-by, Numbered, unless-refused}
 use Rattle.numbers.specs.Integers.{_modulo_}
-use Rattle.numbers.specs.Lists.{joined, overwrite-front, place-after}
+use Rattle.numbers.specs.Lists.{count-if, joined, overwrite-front, place-after}
 
 -- ---- refusals
 
@@ -25,7 +26,7 @@ pub record Conditions-correct : Type 1 where
   pub nothing-numbered : Numbered []
   pub numbered : (k : ℕ) (P : Type 0) (cs : List Condition) → Numbered (condition k P ∷ cs) ↔ ((0 < k) × Numbered cs)
 
--- a checklist answers 0 exactly where every condition holds, and a number exactly where that number refuses
+-- a checklist answers a number exactly where that number refuses, and 0, if no condition has that number, exactly where every condition holds
 pub record Checklist-correct (cs : List Check) : Type 1 where
   pub refuses : (n : ℕ) → (first-failing cs ≡ suc n) ↔ Refused-by (conditions cs) (suc n)
   pub accepts : Numbered (conditions cs) → (first-failing cs ≡ 0) ↔ All-hold (conditions cs)
@@ -55,6 +56,12 @@ pub record Enumerates (holds : (x : ℕ) → Type 0) (number : ℕ) (xs : List �
   pub fits : (x : ℕ) → List·Memᴰ x xs → x < 2 ^ 32
   pub counted : length xs ≡ number
 
+-- how many of the numbers from x on have a property, as many as are left: one more where x has it
+pub record Counts-correct (property : ℕ → Bool) : Type 0 where
+  pub none-left : (x : ℕ) → count-if property 0 x ≡ 0
+  pub counted : (n x : ℕ) → property x ≡ true → count-if property (suc n) x ≡ suc (count-if property n (suc x))
+  pub passed : (n x : ℕ) → property x ≡ false → count-if property (suc n) x ≡ count-if property n (suc x)
+
 -- ---- buffers
 
 -- a list stands in a buffer: from the first place on, and every place after it is as it was
@@ -83,4 +90,5 @@ pub record Promised : Type 1 where
   pub remainders : (z : ℤ) (M : ℕ) → Remainder-correct z M
   -- by 0 nothing is taken off, and a negative number leaves 0
   pub remainders-by-zero : (n : ℕ) → (pos n modulo 0 ≡ n) × (negsuc n modulo 0 ≡ 0)
+  pub counts : (property : ℕ → Bool) → Counts-correct property
   pub buffers : Buffers-correct

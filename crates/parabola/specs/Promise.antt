@@ -44,8 +44,8 @@ pub record Covers-by (M c0 c1 : ℕ) (s : ℤ) (N w : ℕ) (segment : Segment) :
   pub count : segment .count ≡ N
   pub window : (D : ℕ) → 2 * D ≡ natAbs s * (N * (N - 1)) → segment .window ≡ min M (w + D)
 
--- the covering segment of a parabola. It lies above the values exactly by what the curve may still add to them, D at 0 and nothing at N, or by what
--- it has taken from them, nothing at 0 and D at N. Wherever a value below N is less than the window, the residue is less than the covering window
+-- the covering segment of a parabola. Modulo M it lies above the values exactly by what the curve may still add to them, D at 0 and nothing at N, or by
+-- what it has taken from them, nothing at 0 and D at N. Wherever a value below N is less than the window, the residue is less than the covering window
 pub record Covering-correct (p : Parabola) : Type 0 where
   pub numbers : Covers-by (p .unit) (p .value) (p .slope) (p .curve) (p .count) (p .window) (covering p)
   pub spread-is : 2 * spread p ≡ natAbs (p .curve) * (p .count * (p .count - 1))

@@ -1,5 +1,5 @@
-pub mod Counting
-pub mod Comparing
-pub mod Cases
-pub mod Places
+mod Counting
+mod Comparing
+mod Cases
+mod Places
 pub mod Promises

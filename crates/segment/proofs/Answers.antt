@@ -10,12 +10,13 @@ use Rattle.geometry.specs.Segment.{Segment, residue}
 use Rattle.segment.specs.Accepted.{asked, checks, refusal, Searchable, Accepted}
 use Rattle.segment.specs.Search.{argument, distance, verdict-at}
 use Rattle.segment.specs.Answer.{regular-shown, fine-shown, regular-answer-with, fine-answer-with, regular-answer, fine-answer}
-use Rattle.segment.specs.State.{points, state-after, Ended}
+use Rattle.segment.specs.State.{points, state-after}
 use Rattle.segment.specs.Promise.{Refused-for}
 use Rattle.segment.specs.declared.state.State.{State}
 use Rattle.segment.specs.declared.RegularAnswer.the-variants as regular-variants
 use Rattle.segment.specs.declared.FineAnswer.the-variants as fine-variants
 use Rattle.segment.proofs.Minimum.{least-is}
+use Rattle.segment.proofs.Invariant.{Ended}
 use Rattle.segment.proofs.Stepping.{ended}
 
 -- ---- refusals

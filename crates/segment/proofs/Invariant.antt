@@ -13,12 +13,12 @@ use Rattle.numbers.proofs.Fibonacci.{fib, fib-zero, fib-one, fib-mono, fib-31}
 use Rattle.expansion.specs.Configurations.{configuration}
 use Rattle.expansion.specs.Reached.{Search, reached, reached-from}
 use Rattle.expansion.proofs.Laws.{one-reached, rows-reached, row-reached}
-use Rattle.geometry.specs.Segment.{Segment}
-use Rattle.geometry.specs.TwoLength.{Position}
+use Rattle.geometry.specs.Segment.{Segment, residue}
+use Rattle.geometry.specs.TwoLength.{Position, Least}
 use Rattle.geometry.proofs.Laws.{whole, short-positive, long-positive, first-position, least, cut-even, stay-odd, move-odd, residue-start}
 use Rattle.segment.specs.Accepted.{Searchable}
 use Rattle.segment.specs.Search.{reached-in}
-use Rattle.segment.specs.State.{points, first-state, advanced-left, highest-cut, cut-state, Ended}
+use Rattle.segment.specs.State.{points, first-state, advanced-left, highest-cut, cut-state}
 use Rattle.segment.specs.declared.state.State.{State}
 use Rattle.segment.proofs.Advancing.{short-gap, left-alone, moved}
 
@@ -47,7 +47,13 @@ cut-holds s true t p j fits =
     (λ h. rw (← moved j t l refl (omega arith)) (unfold highest-cut in move-odd p j fits l (omega arith))))
     (λ l. rw (← short-gap j t (omega arith)) (stay-odd p j fits (λ h. absurd (l h))))
 
--- a state that stands at the configuration reached
+-- a state at the configuration that a search reaches, with the argument of least residue below its count
+pub record Ended (k : Search) (s : Segment) (t : State) : Type 0 where
+  pub least : Least s (points t) (t .argument)
+  pub shows : t .distance ≡ residue s (t .argument)
+  pub label : reached-in k s ≡ configuration (points t) (t .index) (t .part)
+  pub fits : points t ≤ s .unit
+
 pub ended-at : {k : Search} {s : Segment} {odd : Bool} (t : State) → State-holds s odd t → reached-in k s ≡ configuration (points t) (t .index) (t .part)
     → Ended k s t
 ended-at t p e = record { least = least p; shows = p .shows; label = e; fits = points-fit t p }

@@ -16,10 +16,10 @@ use Rattle.geometry.specs.Segment.{Segment, residue}
 use Rattle.geometry.specs.TwoLength.{Least}
 use Rattle.geometry.proofs.Laws.{short-positive, least}
 use Rattle.segment.specs.Accepted.{Searchable}
-use Rattle.segment.specs.State.{points, first-state, next, odd-after, state-after, Ended}
+use Rattle.segment.specs.State.{points, first-state, next, odd-after, state-after}
 use Rattle.segment.specs.Promise.{At-configuration, Steps-correct}
 use Rattle.segment.specs.declared.state.State.{State}
-use Rattle.segment.proofs.Invariant.{Running, Search-invariant, ends-here, begins, row-few}
+use Rattle.segment.proofs.Invariant.{Ended, Running, Search-invariant, ends-here, begins, row-few}
 use Rattle.segment.proofs.Steps.{regular-step, fine-step, regular-index, fine-index, regular-grows, fine-grows}
 
 -- ---- one step

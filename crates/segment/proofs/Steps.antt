@@ -17,10 +17,10 @@ use Rattle.expansion.proofs.Laws.{relabelled, row-reached, regular-on, regular-
 use Rattle.geometry.specs.Segment.{Segment}
 use Rattle.geometry.proofs.Laws.{short-positive, longs-positive, turned, distance-below, least}
 use Rattle.segment.specs.Search.{reached-in}
-use Rattle.segment.specs.State.{points, quotient, all-cuts, cuts-to, last-cuts, cut-state, finished, ends, Steppable, Unreached, regular-next, fine-next, Ended}
+use Rattle.segment.specs.State.{points, quotient, all-cuts, cuts-to, last-cuts, cut-state, finished, ends, Steppable, Unreached, regular-next, fine-next}
 use Rattle.segment.specs.declared.state.State.{State}
 use Rattle.segment.proofs.Rows.{cuts-exact, cuts-inexact, rest-inexact, ends-inexact, leaves-some}
-use Rattle.segment.proofs.Invariant.{State-holds, points-fit, cut-holds, ended-at, Running, Search-invariant, ends-here, runs, row-few}
+use Rattle.segment.proofs.Invariant.{Ended, State-holds, points-fit, cut-holds, ended-at, Running, Search-invariant, ends-here, runs, row-few}
 
 -- what is still to be reached for n points from the row after t's
 abbrev after-row : Search → (n : ℕ) → State → Configuration

@@ -1,15 +1,12 @@
--- The steps of the searches as functions of numbers, for the contracts of the functions that take them, and what holds of the state in which a
--- search ends. proofs/Invariant.antt and proofs/Steps.antt show what the steps are for. Assumes nothing: these are definitions.
+-- The steps of the searches as functions of numbers, for the contracts of the functions that take them, and where a search stands after so many steps.
+-- specs/Promise.antt says what the steps are for. Assumes nothing: these are definitions.
 use mathlib.Core.Path.{_≡_}
 use mathlib.Core.Bool.{Bool, true, false, not, _||_, cond}
 use Prim.Native.Nat.{ℕ, zero, suc, _+_, _-_, _*_, _/_, _^_, _≤_, _<_, min}
 use lib.Dec.{eqb, leb, ltb}
-use Rattle.expansion.specs.Configurations.{configuration}
 use Rattle.expansion.specs.Reached.{Search}
 use Rattle.expansion.specs.Reached.Search.{regular, fine}
-use Rattle.geometry.specs.Segment.{Segment, residue}
-use Rattle.geometry.specs.TwoLength.{Least}
-use Rattle.segment.specs.Search.{reached-in}
+use Rattle.geometry.specs.Segment.{Segment}
 use Rattle.segment.specs.declared.state.State.{State}
 use Rattle.segment.specs.declared.state.Cuts.{Cuts}
 use Rattle.segment.specs.declared.state.Nearest.{Nearest}
@@ -186,12 +183,3 @@ odd-after (suc n) = not (odd-after n)
 unfoldable pub state-after : Search → Segment → (steps : ℕ) → State
 state-after k s zero = first-state (s .unit) (s .step) (s .start) (s .count)
 state-after k s (suc n) = cond (state-after k s n .done) (state-after k s n) (next k (odd-after n) (s .count) (state-after k s n))
-
--- ---- the end
-
--- a state at the configuration that a search reaches, with the argument of least residue below its count
-pub record Ended (k : Search) (s : Segment) (t : State) : Type 0 where
-  pub least : Least s (points t) (t .argument)
-  pub shows : t .distance ≡ residue s (t .argument)
-  pub label : reached-in k s ≡ configuration (points t) (t .index) (t .part)
-  pub fits : points t ≤ s .unit
