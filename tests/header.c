@@ -198,22 +198,41 @@ static const struct refused_segment REFUSED_SEGMENTS[] = {
 
 enum { REFUSED_SEGMENT_COUNT = sizeof REFUSED_SEGMENTS / sizeof REFUSED_SEGMENTS[0] };
 
-static void check_regular(const char *example, struct segment s, uint32_t refusal, const uint64_t shown[5]) {
-    struct lent has = fresh("shown", 8, 5), wanted = has;
+/* What a search of a segment shows, in as many words as it has. */
+struct shown_segment {
+    const char *example;
+    struct segment segment;
+    uint64_t shown[6];
+};
+
+struct search {
+    const char *name;
+    size_t words;
+    uint32_t (*call)(uint64_t modulus, uint64_t step, uint64_t start, uint64_t count, uint64_t window, uint64_t *shown);
+};
+
+static const struct search REGULAR = {"regular search", 5, geyserdish_regular_search};
+static const struct search FINE = {"fine search", 6, geyserdish_fine_search};
+
+static void check_search(const struct search *search, const char *example, struct segment s, uint32_t refusal,
+                         const uint64_t shown[]) {
+    struct lent has = fresh("shown", 8, search->words), wanted = has;
     if (refusal == 0) {
-        set(&wanted, shown, 5);
+        set(&wanted, shown, search->words);
     }
-    uint32_t number = geyserdish_regular_search(s.modulus, s.step, s.start, s.count, s.window, lend(&has));
-    count_check("regular search", example, number, refusal, &has, &wanted, 1);
+    uint32_t number = search->call(s.modulus, s.step, s.start, s.count, s.window, lend(&has));
+    count_check(search->name, example, number, refusal, &has, &wanted, 1);
 }
 
-static void check_fine(const char *example, struct segment s, uint32_t refusal, const uint64_t shown[6]) {
-    struct lent has = fresh("shown", 8, 6), wanted = has;
-    if (refusal == 0) {
-        set(&wanted, shown, 6);
+/* The segments that are accepted, and those that are not. */
+static void check_search_of_all(const struct search *search, const struct shown_segment accepted[], size_t segments) {
+    for (size_t i = 0; i < segments; i++) {
+        check_search(search, accepted[i].example, accepted[i].segment, 0, accepted[i].shown);
     }
-    uint32_t number = geyserdish_fine_search(s.modulus, s.step, s.start, s.count, s.window, lend(&has));
-    count_check("fine search", example, number, refusal, &has, &wanted, 1);
+    for (size_t i = 0; i < REFUSED_SEGMENT_COUNT; i++) {
+        const struct refused_segment *refused = &REFUSED_SEGMENTS[i];
+        check_search(search, refused->example, refused->segment, refused->refusal, NULL);
+    }
 }
 
 /*
@@ -223,11 +242,8 @@ static void check_fine(const char *example, struct segment s, uint32_t refusal, 
  * or 2^62, with index 1, and a fine one reaches count, with the label (0, count - 1).
  */
 static void check_regular_searches(void) {
-    static const struct {
-        const char *example;
-        struct segment segment;
-        uint64_t shown[5]; /* count, index, distance, argument, verdict */
-    } accepted[] = {
+    static const struct shown_segment accepted[] = {
+        /* count, index, distance, argument, verdict */
         {"P1, count 1", {45, 14, 44, 1, 1}, {1, 0, 44, 0, 1}},
         {"P1, count 2", {45, 14, 44, 2, 1}, {4, 1, 2, 3, 1}},
         {"P1, count 4", {45, 14, 44, 4, 1}, {4, 1, 2, 3, 1}},
@@ -251,20 +267,12 @@ static void check_regular_searches(void) {
         {"modulus 2^62, window 2^62", {LARGEST, 1, LARGEST - 1, 1, LARGEST}, {1, 0, LARGEST - 1, 0, 0}},
         {"modulus 2^62, count 1048576", {LARGEST, 1, 1048576, 1048576, 1}, {LARGEST, 1, 0, 1048576, 0}},
     };
-    for (size_t i = 0; i < sizeof accepted / sizeof accepted[0]; i++) {
-        check_regular(accepted[i].example, accepted[i].segment, 0, accepted[i].shown);
-    }
-    for (size_t i = 0; i < REFUSED_SEGMENT_COUNT; i++) {
-        check_regular(REFUSED_SEGMENTS[i].example, REFUSED_SEGMENTS[i].segment, REFUSED_SEGMENTS[i].refusal, NULL);
-    }
+    check_search_of_all(&REGULAR, accepted, sizeof accepted / sizeof accepted[0]);
 }
 
 static void check_fine_searches(void) {
-    static const struct {
-        const char *example;
-        struct segment segment;
-        uint64_t shown[6]; /* count, index, part, distance, argument, verdict */
-    } accepted[] = {
+    static const struct shown_segment accepted[] = {
+        /* count, index, part, distance, argument, verdict */
         {"P1, count 1", {45, 14, 44, 1, 1}, {1, 0, 0, 44, 0, 1}},
         {"P1, count 2", {45, 14, 44, 2, 1}, {2, 0, 1, 30, 1, 1}},
         {"P1, count 3", {45, 14, 44, 3, 1}, {3, 0, 2, 16, 2, 1}},
@@ -292,12 +300,7 @@ static void check_fine_searches(void) {
         {"modulus 2^62, window 2^62", {LARGEST, 1, LARGEST - 1, 1, LARGEST}, {1, 0, 0, LARGEST - 1, 0, 0}},
         {"modulus 2^62, count 1048576", {LARGEST, 1, 1048576, 1048576, 1}, {1048576, 0, 1048575, 1, 1048575, 1}},
     };
-    for (size_t i = 0; i < sizeof accepted / sizeof accepted[0]; i++) {
-        check_fine(accepted[i].example, accepted[i].segment, 0, accepted[i].shown);
-    }
-    for (size_t i = 0; i < REFUSED_SEGMENT_COUNT; i++) {
-        check_fine(REFUSED_SEGMENTS[i].example, REFUSED_SEGMENTS[i].segment, REFUSED_SEGMENTS[i].refusal, NULL);
-    }
+    check_search_of_all(&FINE, accepted, sizeof accepted / sizeof accepted[0]);
 }
 
 /* ---- the scan of a segment ---- */

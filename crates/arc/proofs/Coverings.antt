@@ -12,7 +12,7 @@ use Rattle.expansion.specs.Reached.{Search}
 use Rattle.expansion.specs.Reached.Search.{regular, fine}
 use Rattle.segment.specs.Accepted.{Accepted}
 use Rattle.segment.specs.Search.{verdict}
-use Rattle.segment.specs.Answer.{regular-answer, regular-answer-with, regular-shown, fine-answer, fine-answer-with, fine-shown}
+use Rattle.segment.specs.Answer.{regular-answer, regular-shown, fine-answer, fine-shown}
 use Rattle.segment.specs.declared.Verdict.the-variants.{Clear, Possible}
 use Rattle.segment.specs.declared.Regular.{Regular}
 use Rattle.segment.specs.declared.Fine.{Fine}
@@ -20,6 +20,7 @@ use Rattle.segment.specs.declared.RegularAnswer.{RegularAnswer}
 use Rattle.segment.specs.declared.RegularAnswer.the-variants as regular-variants
 use Rattle.segment.specs.declared.FineAnswer.{FineAnswer}
 use Rattle.segment.specs.declared.FineAnswer.the-variants as fine-variants
+use Rattle.segment.proofs.Laws.{regular-shows, fine-shows}
 use Rattle.segment.proofs.Promises as segment
 use Rattle.parabola.specs.Parabola.{Parabola, In-range, value-at, spread, covering-step, start-over, covering-start, covering-window, covering}
 use Rattle.parabola.proofs.Promises as parabola-promises
@@ -61,12 +62,12 @@ module _ {p : Parabola} (range : In-range p) where
 
 module _ {p : Parabola} (range : In-range p) {c : Covering} (e : c ≡ covering-numbers p) where
   regular-answered : regular-answer (p .unit) (c .step) (c .start) (p .count) (c .window) ≡ regular-variants.Shown (regular-shown (covering p))
-  unfolding regular-answer regular-answer-with covering-numbers
-  regular-answered = rw (e, segment.promised .accepted _ _ _ _ _ .1 (covering-accepted range))
+  unfolding covering-numbers
+  regular-answered = rw e (regular-shows _ _ _ _ _ (covering-accepted range))
 
   fine-answered : fine-answer (p .unit) (c .step) (c .start) (p .count) (c .window) ≡ fine-variants.Shown (fine-shown (covering p))
-  unfolding fine-answer fine-answer-with covering-numbers
-  fine-answered = rw (e, segment.promised .accepted _ _ _ _ _ .1 (covering-accepted range))
+  unfolding covering-numbers
+  fine-answered = rw e (fine-shows _ _ _ _ _ (covering-accepted range))
 
   module _ {r : RegularAnswer} (f : r ≡ regular-answer (p .unit) (c .step) (c .start) (p .count) (c .window)) where
     pub regular-unrefused : {n : ℕ} → r ≡ regular-variants.Refused n → ⊥

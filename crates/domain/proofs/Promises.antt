@@ -10,7 +10,7 @@ use Rattle.numbers.specs.Checklist.{unless-refused}
 use Rattle.numbers.specs.Lists.{count-if, overwrite-front}
 use Rattle.numbers.specs.Promise.{Enumerates, Buffer-correct}
 use Rattle.numbers.proofs.Checklists.{gives, unrefused-new, refused-old}
-use Rattle.numbers.proofs.Buffers.{front-correct, front-taken}
+use Rattle.numbers.proofs.Buffers.{front-correct, front-taken, front-ascends}
 use Rattle.expansion.specs.Reached.Search.{regular}
 use Rattle.geometry.specs.Segment.{Segment, residue}
 use Rattle.geometry.specs.Segment as geometry
@@ -83,11 +83,6 @@ nothing-over : {xs : List ℕ} (old : List ℕ) → xs ≡ [] → overwrite-fron
 unfolding overwrite-front
 nothing-over old e = rw e refl
 
--- a list that ascends does so where it stands in a buffer
-ascends-in-front : {xs old new : List ℕ} → Buffer-correct xs old new → ((i j : ℕ) → i < j → j < length xs → getD xs i 0 < getD xs j 0)
-    → (i j : ℕ) → i < j → j < length xs → getD new i 0 < getD new j 0
-ascends-in-front b a i j h l = omega (arith, a i j h l, b .front i (omega arith), b .front j l)
-
 module _ (d : Domain) (old-marks old : List ℕ) where
   -- what is accepted leaves the marks and the list
   searched-leaves : domain-number d (length old) ≡ 0
@@ -118,7 +113,7 @@ module _ (d : Domain) (old-marks old : List ℕ) where
         ascends = λ v n e. let r = reports v n .0 e in
             let b = buffer (r .0) in
             let l = parabola.promised .hard-lists (parabola-of d) (taken (r .0) .0 .in-range .count-high) in
-            λ i j h k. ascends-in-front b (l .ascending) i j h (omega (arith, r .2));
+            λ i j h k. front-ascends b (l .ascending) i j h (omega (arith, r .2));
       }
     where
       number : ℕ
@@ -193,7 +188,7 @@ module _ (s : Segment) where
         buffer = λ n e. buffer (scan-lists-with number n .0 e .0);
         hard = λ n e. hard n (scan-lists-with number n .0 e);
         ascends = λ n e. let r = scan-lists-with number n .0 e in
-            λ i j h k. ascends-in-front (buffer (r .0)) (listed (r .0) .ascending) i j h (omega (arith, r .1));
+            λ i j h k. front-ascends (buffer (r .0)) (listed (r .0) .ascending) i j h (omega (arith, r .1));
       }
     where
       number : ℕ

@@ -1,10 +1,9 @@
 -- The settled examples, computed from the definitions. Assumes nothing.
-use mathlib.Core.Path.{_≡_, refl, _∙_}
+use mathlib.Core.Path.{_≡_, refl, _∙_, ap}
 use mathlib.Core.Logic.{Dec·and}
-use Prim.Native.Nat.{ℕ, _≤_, _<_}
+use Prim.Native.Nat.{ℕ, _≤_}
 use native.Mathlib.Decide.{decLe, decLt, ℕ-discrete}
 use native.Mathlib.Omega.{arith}
-use borrow.Author.Tests.{le-leb, lt-leb}
 use Rattle.numbers.specs.Checklist.{first-failing, unless-refused}
 use Rattle.numbers.specs.Integers.{_modulo_}
 use Rattle.numbers.specs.Unit.{ranged}
@@ -18,10 +17,9 @@ use Rattle.geometry.specs.Segment.{residue}
 use Rattle.segment.specs.Accepted as segments
 use Rattle.segment.specs.Search.{least-from, argument, distance, verdict-at}
 use Rattle.segment.specs.Answer.{regular-shown, fine-shown, regular-answer-with, fine-answer-with, regular-answer, fine-answer}
-use Rattle.segment.specs.declared.Verdict.the-variants.{Clear, Possible}
 use Rattle.segment.specs.declared.RegularAnswer.the-variants as regular-variants
 use Rattle.segment.specs.declared.FineAnswer.the-variants as fine-variants
-use Rattle.segment.proofs.Promises as segment-promises
+use Rattle.segment.proofs.Laws.{verdict-iff, regular-shows, fine-shows}
 use Rattle.parabola.specs.Parabola as parabola
 use Rattle.parabola.specs.Parabola.{triangle, value-at, slope-at, spread, covering-step, start-over, covering-start, covering-window, continued, part-count, part-start}
 use Rattle.domain.specs.Phases.{mark-of, marks-by}
@@ -30,7 +28,7 @@ use Rattle.text.specs.Text.{decimal-within, decimal}
 use Rattle.text.specs.Reading.{starts, takes-digit, digits-from, number-from, field-at, unsigned, opposite, signed-from, signed-field-at}
 use Rattle.job.specs.Reading.{rest-from, reading}
 use Rattle.job.specs.Output.{verdict-name, argument-lines, refused, report, printed-for, printed, output-with, output-of}
-use Rattle.examples.specs.Settled.{Example-1, Example-6, Example-7, Example-8, Example-9, Example-10, Example-11, Settled}
+use Rattle.examples.specs.Settled.{Regular-shows, Fine-shows, Example-1, Example-6, Example-7, Example-8, Example-9, Example-10, Example-11, Settled}
 
 example-1 : Example-1
 unfolding decLe decLt Dec·and ℕ-discrete ranged first-failing rows-from expansion zero-padded refusal answer-with answer regular-from regular parts-from fine-from fine
@@ -46,59 +44,42 @@ example-1 =
 
 -- ---- for every window
 
--- an accepted segment is answered with what its search shows
-module _ (M a b N w : ℕ) (c : segments.Accepted (segments.asked M a b N w)) where
-  regular-answered : regular-answer M a b N w ≡ regular-variants.Shown (regular-shown (segments.asked M a b N w))
-  unfolding regular-answer regular-answer-with
-  regular-answered = rw (segment-promises.promised .accepted M a b N w .1 c)
+-- what is shown with the verdict by the distance is answered for every window that is accepted
+module _ (M a b N : ℕ) (accepted : (w : ℕ) → w ≤ M → segments.Accepted (segments.asked M a b N w)) {n i d x : ℕ} where
+  regular-for-all : ((w : ℕ) → regular-shown (segments.asked M a b N w)
+      ≡ record { count = n; quotients = i; distance = d; argument = x; verdict = verdict-at d w }) → Regular-shows M a b N n i d x
+  regular-for-all shown =
+      record {
+        clear = λ w m h. regular-shows M a b N w (accepted w m) ∙ ap regular-variants.Shown (shown w) ∙ rw (verdict-iff d w .0 .1 h);
+        possible = λ w m h. regular-shows M a b N w (accepted w m) ∙ ap regular-variants.Shown (shown w) ∙ rw (verdict-iff d w .1 .1 h);
+      }
 
-  fine-answered : fine-answer M a b N w ≡ fine-variants.Shown (fine-shown (segments.asked M a b N w))
-  unfolding fine-answer fine-answer-with
-  fine-answered = rw (segment-promises.promised .accepted M a b N w .1 c)
-
--- the verdict is clear up to the distance, and possible above it
-clear : (d w : ℕ) → w ≤ d → verdict-at d w ≡ Clear
-unfolding verdict-at
-clear d w h = rw (le-leb w d h)
-
-possible : (d w : ℕ) → d < w → verdict-at d w ≡ Possible
-unfolding verdict-at
-possible d w h = rw (lt-leb w d h)
+  fine-for-all : {t : ℕ} → ((w : ℕ) → fine-shown (segments.asked M a b N w)
+      ≡ record { count = n; index = i; part = t; distance = d; argument = x; verdict = verdict-at d w }) → Fine-shows M a b N n i t d x
+  fine-for-all shown =
+      record {
+        clear = λ w m h. fine-shows M a b N w (accepted w m) ∙ ap fine-variants.Shown (shown w) ∙ rw (verdict-iff d w .0 .1 h);
+        possible = λ w m h. fine-shows M a b N w (accepted w m) ∙ ap fine-variants.Shown (shown w) ∙ rw (verdict-iff d w .1 .1 h);
+      }
 
 example-6 : Example-6
 unfolding rows-from expansion parts-from fine-from fine configurations-of reached-in reached residue least-from argument distance fine-shown
-example-6 =
-    record {
-      clear = λ w m h. fine-answered 45 15 44 10 w (omega arith) ∙ rw (clear 14 w h);
-      possible = λ w m h. fine-answered 45 15 44 10 w (omega arith) ∙ rw (possible 14 w h);
-    }
+example-6 = fine-for-all 45 15 44 10 (λ w m. omega arith) (λ w. refl)
 
 example-7 : Example-7
 unfolding rows-from expansion regular-from regular parts-from fine-from fine configurations-of reached-in reached residue least-from argument distance regular-shown fine-shown
 example-7 =
     record {
-      by-regular = record {
-        clear = λ w m h. regular-answered 45 44 0 3 w (omega arith) ∙ rw (clear 0 w h);
-        possible = λ w m h. regular-answered 45 44 0 3 w (omega arith) ∙ rw (possible 0 w h);
-      };
-      by-fine = record {
-        clear = λ w m h. fine-answered 45 44 0 3 w (omega arith) ∙ rw (clear 0 w h);
-        possible = λ w m h. fine-answered 45 44 0 3 w (omega arith) ∙ rw (possible 0 w h);
-      };
+      by-regular = regular-for-all 45 44 0 3 (λ w m. omega arith) (λ w. refl);
+      by-fine = fine-for-all 45 44 0 3 (λ w m. omega arith) (λ w. refl);
     }
 
 example-8 : Example-8
 unfolding rows-from expansion regular-from regular parts-from fine-from fine configurations-of reached-in reached residue least-from argument distance regular-shown fine-shown
 example-8 =
     record {
-      by-regular = record {
-        clear = λ w m h. regular-answered 45 14 44 1 w (omega arith) ∙ rw (clear 44 w h);
-        possible = λ w m h. regular-answered 45 14 44 1 w (omega arith) ∙ rw (possible 44 w h);
-      };
-      by-fine = record {
-        clear = λ w m h. fine-answered 45 14 44 1 w (omega arith) ∙ rw (clear 44 w h);
-        possible = λ w m h. fine-answered 45 14 44 1 w (omega arith) ∙ rw (possible 44 w h);
-      };
+      by-regular = regular-for-all 45 14 44 1 (λ w m. omega arith) (λ w. refl);
+      by-fine = fine-for-all 45 14 44 1 (λ w m. omega arith) (λ w. refl);
     }
 
 -- ---- scans and domains

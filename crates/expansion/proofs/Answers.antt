@@ -24,8 +24,7 @@ module _ (M a : ℕ) where
   pub accepted : (refusal M a ≡ 0) ↔ ((2 ≤ M) × (M ≤ 2 ^ 62) × (a < M))
   unfolding refusal
   accepted =
-      let r = accepts (checks M a) (omega arith) in
-      (λ e. let h = r .0 e in (h .0 .0, h .0 .1, h .1 .0), λ h. r .1 ((h .0, h .1), (h .2, tt)))
+      let r = accepts (checks M a) (omega arith) in (λ e. let h = r .0 e in omega arith, λ h. r .1 (omega arith))
 
   modulus-refused : (refusal M a ≡ 1) ↔ ((M < 2) ⊎ (2 ^ 62 < M))
   unfolding refusal

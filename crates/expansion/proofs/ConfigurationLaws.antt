@@ -3,11 +3,11 @@
 use mathlib.Core.Path.{_≡_, refl, sym, _∙_, ap}
 use mathlib.Core.List.{List, [], _∷_, List·Memᴰ, Memᴰ·cast}
 use mathlib.Core.Logic.{⊎-elim}
-use Prim.Native.Nat.{ℕ, zero, suc, _+_, _-_, _*_, _<_}
+use Prim.Native.Nat.{ℕ, suc, _+_, _-_, _*_, _<_}
 use native.Mathlib.Nat.{eq-zero-or-pos, zero-add}
 use native.Mathlib.Omega.{arith}
 use borrow.Author.Tests.{ne-eqb}
-use lib.ListN.{length, getD, length-map}
+use lib.ListN.{length, getD, length-map, List·getD-map}
 use Rattle.numbers.proofs.Remainders.{quotient-positive}
 use Rattle.numbers.proofs.Lists.{Ascending-from, ascending}
 use Rattle.numbers.proofs.Lists.Ascending-from.{ascending-nil, ascending-cons}
@@ -21,20 +21,11 @@ use Rattle.expansion.proofs.Fine.{fine-ascend, fine-has, fine-only, fin
 use Rattle.expansion.proofs.RowLaws.{last-index, kept, beside, second-row}
 
 -- configurations whose counts ascend from a bound on ascend place by place
-count-at : (cs : List Configuration) (i : ℕ) → getD (counts cs) i 0 ≡ getD cs i none .count
-count-at [] i = refl
-count-at (c ∷ cs) zero = refl
-count-at (c ∷ cs) (suc i) = count-at cs i
-
 counts-ascend : {n : ℕ} (cs : List Configuration) → Ascending-from n (counts cs)
     → (i j : ℕ) → i < j → j < length cs → getD cs i none .count < getD cs j none .count
 counts-ascend cs a i j h l =
-    omega (
-      arith,
-      ascending a i j h (omega (arith, l, length-map cs (λ (c : Configuration). c .count))),
-      count-at cs i,
-      count-at cs j,
-    )
+    let count : Configuration → ℕ = λ c. c .count in
+    omega (arith, ascending a i j h (omega (arith, l, length-map cs count)), List·getD-map count cs i none, List·getD-map count cs j none)
 
 module _ (M a : ℕ) (small : a < M) where
   regular-of-zero : a ≡ 0 → regular M a ≡ configuration 1 0 0 ∷ []

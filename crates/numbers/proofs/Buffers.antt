@@ -2,7 +2,7 @@
 use mathlib.Core.Path.{_≡_, refl, sym, _∙_, ap, subst}
 use mathlib.Core.List.{List, [], _∷_, _++_}
 use mathlib.Core.Logic.{by-cases}
-use Prim.Native.Nat.{ℕ, suc, _+_, _-_, _≤_, min, max}
+use Prim.Native.Nat.{ℕ, suc, _+_, _-_, _≤_, _<_, min, max}
 use native.Mathlib.Nat.{zero-add, add-zero, add-suc, suc-add}
 use native.Mathlib.Numerals.{add-one}
 use native.Mathlib.Decide.{decLe}
@@ -11,7 +11,7 @@ use lib.ListN.{length, getD, set, take, drop, replicate, length-append, length-d
 use lib.Seq.{set-out, sets, sets-eq, length-sets, getD-append-add, getD-drop, take-append-seam}
 use Rattle.numbers.specs.Lists.{zero-padded, overwrite-front, place-after}
 use Rattle.numbers.specs.Promise.{Buffer-correct}
-use Rattle.numbers.proofs.Lists.{drop-replicate}
+use Rattle.numbers.proofs.Lists.{Ascending, drop-replicate}
 
 -- the list `goal` goes into the buffer `old` from the place `from` on; of it `rest` is still to be written into the buffer `now`, from the place
 -- `at` on
@@ -146,6 +146,10 @@ front-correct xs old h =
         let e : length xs + (i - length xs) ≡ i = omega arith in
         subst (λ (j : ℕ). getD (xs ++ drop (length xs) old) j 0 ≡ getD old j 0) e
         (getD-append-add xs (drop (length xs) old) (i - length xs) 0 ∙ getD-drop (length xs) old (i - length xs) 0)
+
+-- a list that ascends does so there
+pub front-ascends : {xs old new : List ℕ} → Buffer-correct xs old new → Ascending xs → (i j : ℕ) → i < j → j < length xs → getD new i 0 < getD new j 0
+front-ascends b a i j h l = omega (arith, a i j h l, b .front i (omega arith), b .front j l)
 
 -- and taken off again
 pub front-taken : (xs old : List ℕ) → take (length xs) (overwrite-front xs old) ≡ xs

@@ -42,19 +42,29 @@ module _ (M a b N w : ℕ) where
   fine-refused zero e h = absurd (h refl)
   fine-refused (suc n) e h = rw (← e)
 
+-- and an accepted segment is answered with what its search shows
+module _ (M a b N w : ℕ) (c : Accepted (asked M a b N w)) where
+  pub regular-shows : regular-answer M a b N w ≡ regular-variants.Shown (regular-shown (asked M a b N w))
+  unfolding regular-answer regular-answer-with
+  regular-shows = rw (accepted (asked M a b N w) .1 c)
+
+  pub fine-shows : fine-answer M a b N w ≡ fine-variants.Shown (fine-shown (asked M a b N w))
+  unfolding fine-answer fine-answer-with
+  fine-shows = rw (accepted (asked M a b N w) .1 c)
+
 -- ---- the end of a search
 
 -- of an accepted segment, after 29 steps; the window plays no part in them
-ends-so : (k : Search) (M a b N w : ℕ) {t : State} → Accepted (asked M a b N w) → t ≡ state-after k (asked M a b N 0) 29 → Ended k (asked M a b N w) t
+ended-with : (k : Search) (M a b N w : ℕ) {t : State} → Accepted (asked M a b N w) → t ≡ state-after k (asked M a b N 0) 29 → Ended k (asked M a b N w) t
 unfolding residue
-ends-so k M a b N w {t} c e =
+ended-with k M a b N w {t} c e =
     let searchable : Searchable (asked M a b N 0) = omega arith in
     let end : Ended k (asked M a b N 0) t = rw e (ended k searchable) in
     search
 
 -- its points fit a word
 pub points-few : (k : Search) (M a b N w : ℕ) {t : State} → Accepted (asked M a b N w) → t ≡ state-after k (asked M a b N 0) 29 → points t ≤ 2 ^ 62
-points-few k M a b N w c e = omega (arith, c .searchable .unit-within, ends-so k M a b N w c e .fits)
+points-few k M a b N w c e = omega (arith, c .searchable .unit-within, ended-with k M a b N w c e .fits)
 
 module _ {k : Search} {s : Segment} {t : State} (e : Ended k s t) where
   argument-is : argument k s ≡ t .argument
@@ -74,9 +84,8 @@ module _ (M a b N w : ℕ) {t : State} (c : Accepted (asked M a b N w)) where
         argument = t .argument;
         verdict = verdict-at (t .distance) w;
       }) ≡ regular-answer M a b N w
-  unfolding regular-answer regular-answer-with regular-shown
-  regular-answered e =
-      let end = ends-so regular M a b N w c e in rw (accepted (asked M a b N w) .1 c, end .label, argument-is end, distance-is end)
+  unfolding regular-shown
+  regular-answered e = let end = ended-with regular M a b N w c e in rw (regular-shows M a b N w c, end .label, argument-is end, distance-is end)
 
   pub fine-answered : t ≡ state-after fine (asked M a b N 0) 29
       → fine-variants.Shown (record {
@@ -87,6 +96,5 @@ module _ (M a b N w : ℕ) {t : State} (c : Accepted (asked M a b N w)) where
         argument = t .argument;
         verdict = verdict-at (t .distance) w;
       }) ≡ fine-answer M a b N w
-  unfolding fine-answer fine-answer-with fine-shown
-  fine-answered e =
-      let end = ends-so fine M a b N w c e in rw (accepted (asked M a b N w) .1 c, end .label, argument-is end, distance-is end)
+  unfolding fine-shown
+  fine-answered e = let end = ended-with fine M a b N w c e in rw (fine-shows M a b N w c, end .label, argument-is end, distance-is end)

@@ -1,8 +1,8 @@
 -- A field is read from a place of a text exactly where its line stands there and its number is in range. Assumes nothing.
-use mathlib.Core.Path.{_≡_, refl, ap, _∙_}
+use mathlib.Core.Path.{_≡_, refl, sym, ap, _∙_}
 use mathlib.Core.Bool.{true, false, cond}
 use mathlib.Core.List.{List, [], _∷_, _++_, append-assoc}
-use mathlib.Core.Logic.{_↔_, ⊎-elim}
+use mathlib.Core.Logic.{_↔_, _⊎_, inl, inr, ⊎-elim}
 use mathlib.Mathlib.Data.Bool.Basic.{dichotomy}
 use Prim.Native.Nat.{ℕ, zero, suc, _+_, _/_, _%_, _^_, _<_}
 use native.Mathlib.Nat.{zero-lt-suc}
@@ -19,7 +19,6 @@ use Rattle.text.specs.Promise.{Line-at, Field-correct}
 use Rattle.text.specs.declared.Found.{Found}
 use Rattle.text.specs.declared.Found.the-variants as found
 use Rattle.text.specs.declared.FoundSigned.{FoundSigned}
-use Rattle.text.specs.declared.FoundSigned.the-variants as found-signed
 use Rattle.text.specs.declared.FoundSigned.the-variants.{Number, Malformed}
 use Rattle.text.proofs.Decimals.{one-digit, more-digits, by-tenths}
 use Rattle.text.proofs.Names.{starts-itself, begins}
@@ -102,16 +101,22 @@ module _ (t : List ℕ) (at : ℕ) where
 
 -- ---- fields
 
--- what is not found is malformed
-not-found : (f : Found) {P : ℕ → ℕ → Type 0} → ((n end : ℕ) → (f ≡ found.Number n end) ↔ P n end)
-    → (f ≡ found.Malformed) ↔ ((n end : ℕ) → P n end → ⊥)
-not-found (found.Number n end) r = (λ e. absurd (let z : _≡_ {A = ℕ} 0 1 = cc in omega arith), λ none. absurd (none n end (r n end .0 refl)))
-not-found found.Malformed r = (λ _ n end p. let e = r n end .1 p in absurd (let z : _≡_ {A = ℕ} 0 1 = cc in omega arith), λ _. refl)
+-- of two cases that exclude each other, one is there exactly where the other is not
+not-found : {F A : Type 0} {f malformed : F} {number : A → ℕ → F} {P : A → ℕ → Type 0}
+    → (f ≡ malformed) ⊎ ((n : A) × (end : ℕ) × (f ≡ number n end)) → ((n : A) (end : ℕ) → malformed ≡ number n end → ⊥)
+    → ((n : A) (end : ℕ) → (f ≡ number n end) ↔ P n end) → (f ≡ malformed) ↔ ((n : A) (end : ℕ) → P n end → ⊥)
+not-found cases apart read = (
+  λ e n end p. apart n end (sym e ∙ read n end .1 p),
+  λ none. ⊎-elim (λ e. e) (λ h. absurd (none (h .0) (h .1) (read (h .0) (h .1) .0 (h .2)))) cases,
+)
 
-not-found-signed : (f : FoundSigned) {P : ℤ → ℕ → Type 0} → ((s : ℤ) (end : ℕ) → (f ≡ found-signed.Number s end) ↔ P s end)
-    → (f ≡ found-signed.Malformed) ↔ ((s : ℤ) (end : ℕ) → P s end → ⊥)
-not-found-signed (found-signed.Number s end) r = (λ e. absurd (let z : _≡_ {A = ℕ} 0 1 = cc in omega arith), λ none. absurd (none s end (r s end .0 refl)))
-not-found-signed found-signed.Malformed r = (λ _ s end p. let e = r s end .1 p in absurd (let z : _≡_ {A = ℕ} 0 1 = cc in omega arith), λ _. refl)
+found-or-not : (f : Found) → (f ≡ found.Malformed) ⊎ ((n : ℕ) × (end : ℕ) × (f ≡ found.Number n end))
+found-or-not (found.Number n end) = inr (n, end, refl)
+found-or-not found.Malformed = inl refl
+
+signed-or-not : (f : FoundSigned) → (f ≡ Malformed) ⊎ ((s : ℤ) × (end : ℕ) × (f ≡ Number s end))
+signed-or-not (Number s end) = inr (s, end, refl)
+signed-or-not Malformed = inl refl
 
 module _ (name t : List ℕ) (at : ℕ) where
   field-read : (n end : ℕ) → (field-at name at t ≡ found.Number n end) ↔ ((n < 2 ^ 64) × Line-at name (decimal n) t at end)
@@ -119,7 +124,7 @@ module _ (name t : List ℕ) (at : ℕ) where
   field-read n end = field-iff name t at (decimal n) end _ no-number (number-iff t (at + length name) n end)
 
   signed-field-read : (s : ℤ) (end : ℕ)
-      → (signed-field-at name at t ≡ found-signed.Number s end) ↔ ((natAbs s < 2 ^ 63) × Line-at name (signed-decimal s) t at end)
+      → (signed-field-at name at t ≡ Number s end) ↔ ((natAbs s < 2 ^ 63) × Line-at name (signed-decimal s) t at end)
   unfolding signed-field-at
   signed-field-read s end =
       field-iff name t at (signed-decimal s) end _ no-signed (signed-read t (at + length name), signed-reads t (at + length name) s end)
@@ -128,7 +133,7 @@ module _ (name t : List ℕ) (at : ℕ) where
   field-correct =
       record {
         read = field-read;
-        malformed = not-found (field-at name at t) field-read;
+        malformed = not-found (found-or-not (field-at name at t)) (λ n end. no-number) field-read;
         signed-read = signed-field-read;
-        signed-malformed = not-found-signed (signed-field-at name at t) signed-field-read;
+        signed-malformed = not-found (signed-or-not (signed-field-at name at t)) (λ s end. no-signed) signed-field-read;
       }
