@@ -167,7 +167,7 @@ impl Gaps {
     }
 
     /// An even row, or its divisions alone where it reaches the count or the period and so is the last one. One cut may be enough to
-    /// reach the count, and that is known before the divisions.
+    /// reach the count: that test does not wait for the divisions.
     #[inline(always)]
     fn even<D: Divisor>(&mut self, count: u64) -> Option<Row> {
         let by = D::new(self.p);

@@ -1,11 +1,9 @@
 -- Lists of numbers: all that have a property, the values of a function, one after another, and as the front of an array.
 -- Assumes nothing: these are definitions.
-use mathlib.Core.Path.{_≡_}
 use mathlib.Core.Bool.{Bool, cond}
-use mathlib.Core.List.{List, [], _∷_, _++_, List·Memᴰ}
-use mathlib.Core.Logic.{_↔_}
-use Prim.Native.Nat.{ℕ, zero, suc, _+_, _-_, _^_, _≤_, _<_, min, max}
-use lib.ListN.{length, getD, drop, replicate}
+use mathlib.Core.List.{List, [], _∷_, _++_}
+use Prim.Native.Nat.{ℕ, zero, suc, _+_, _-_, min, max}
+use lib.ListN.{length, drop, replicate}
 
 -- an array of n places that begins with a list and has zeros after it
 unfoldable pub zero-padded : (n : ℕ) → List ℕ → List ℕ

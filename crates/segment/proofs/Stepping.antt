@@ -1,5 +1,5 @@
 -- A search step by step: the invariant holds after every step, each step makes more points, and 29 steps are enough. Assumes nothing.
-use mathlib.Core.Path.{_≡_, refl, sym, _∙_, ap, subst}
+use mathlib.Core.Path.{_≡_, refl, sym, _∙_, ap}
 use mathlib.Core.Bool.{Bool, true, false, not, cond, false≢true}
 use mathlib.Core.List.{Memᴰ·cast}
 use mathlib.Core.Logic.{⊎-elim}
@@ -7,8 +7,8 @@ use mathlib.Mathlib.Data.Bool.Basic.{dichotomy}
 use Prim.Native.Nat.{ℕ, zero, suc, _+_, _-_, _<_}
 use native.Mathlib.Nat.{le-refl, add-zero, add-suc}
 use native.Mathlib.Omega.{arith}
-use Rattle.expansion.specs.Configurations.{Configuration, configuration}
-use Rattle.expansion.specs.Reached.{Search, configurations-of, reached}
+use Rattle.expansion.specs.Configurations.{configuration}
+use Rattle.expansion.specs.Reached.{Search, reached}
 use Rattle.expansion.specs.Reached.Search.{regular, fine}
 use Rattle.expansion.proofs.Laws.{relabelled, row-reached}
 use Rattle.expansion.proofs.Promises as expansion
@@ -51,7 +51,7 @@ module _ (k : Search) (s : Segment) where
   unfolding state-after
   chosen n e = ap (λ (b : Bool). cond b (state-after k s n) (next k (odd-after n) (s .count) (state-after k s n))) e
 
-  pub step-is : (n : ℕ) → state-after k s n .done ≡ false → state-after k s (suc n) ≡ next k (odd-after n) (s .count) (state-after k s n)
+  step-is : (n : ℕ) → state-after k s n .done ≡ false → state-after k s (suc n) ≡ next k (odd-after n) (s .count) (state-after k s n)
   step-is n = chosen n
 
   stays : (n : ℕ) → state-after k s n .done ≡ true → state-after k s (suc n) ≡ state-after k s n
@@ -85,7 +85,7 @@ module _ (k : Search) {s : Segment} (a : Searchable s) where
       }))
       (dichotomy (state-after k s n .done))
 
-  pub running-after : (n : ℕ) → state-after k s n .done ≡ false → Running k s (odd-after n) (state-after k s n)
+  running-after : (n : ℕ) → state-after k s n .done ≡ false → Running k s (odd-after n) (state-after k s n)
   running-after n = stepped n .invariant .running
 
   few : (n : ℕ) → state-after k s n .done ≡ false → n < 29

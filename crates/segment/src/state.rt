@@ -132,7 +132,7 @@ fn divide(state: State) -> Cuts
     }
 }
 
-// Whether the search is done after all cuts of the row. One cut may be enough, and that is known before the division.
+// Whether the search is done after all cuts of the row. One cut may be enough: that test does not wait for the division.
 fn ends(state: State, row: Cuts, count: u64) -> bool
     requires { ⌜ Steppable state ⌝ }
     requires { ⌜ Unreached count state ⌝ }
