@@ -4,6 +4,7 @@ ghost use Rattle.parabola.specs.Parabola.{In-range, spread, covering-start, cov
 ghost use Rattle.arc.specs.Arc.{parabola, covering-numbers};
 use crate::Arc;
 use numbers::magnitude;
+use numbers::min;
 use numbers::reduce;
 
 // What a search asks of the covering segment beside the modulus and the count, which are the arc's.
@@ -40,11 +41,7 @@ fn covering_window(arc: Arc) -> u64
     requires { ⌜ In-range (parabola arc) ⌝ }
     ensures { λ r. ⌜ r ≡ covering-window (parabola arc) ⌝ }
 {
-    let window = arc.window + spread(arc);
-    if arc.modulus < window {
-        return arc.modulus;
-    }
-    window
+    min(arc.modulus, arc.window + spread(arc))
 }
 
 // How far the curve takes a value, at most.

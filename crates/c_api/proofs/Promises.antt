@@ -15,10 +15,9 @@ use Rattle.geometry.specs.Segment.{Segment, segment}
 use Rattle.segment.specs.Accepted as segments
 use Rattle.segment.specs.Answer.{regular-answer-with, fine-answer-with, regular-answer, fine-answer, regular-refusal, fine-refusal}
 use Rattle.parabola.specs.Parabola.{Parabola}
-use Rattle.domain.specs.Domain.{parabola-of}
+use Rattle.domain.specs.Domain.{centred-of}
 use Rattle.domain.specs.declared.Domain.{Domain}
-use Rattle.domain.specs.Phases as phases
-use Rattle.domain.specs.Answer.{domain-checks, domain-number, answer-with, domain-answer, marks-after, list-after, domain-refusal, scan-checks, scan-number, scan-answer-with, scan-answer, scan-list-after, scan-refusal}
+use Rattle.domain.specs.Answer.{domain-checks, domain-number, answer-with, domain-answer, marks-of, marks-after, list-after, domain-refusal, scan-checks, scan-number, scan-answer-with, scan-answer, scan-list-after, scan-refusal}
 use Rattle.c_api.specs.Memory.{Delivered, verdict-number, regular-memory, fine-memory, scan-memory, domain-memory}
 use Rattle.c_api.specs.Promise.{Promised}
 
@@ -80,14 +79,14 @@ domain-unchanged : (d : Domain) (n : ℕ) (marks list searched : List ℕ) → d
     → (marks-after d (length list) marks ≡ marks) × (list-after d list ≡ list) × (domain-memory (domain-answer d (length list)) searched ≡ searched)
 unfolding domain-answer domain-memory answer-with marks-after list-after
 domain-unchanged d n marks list searched e =
-    let f : domain-number d (length list) ≡ suc n = sym (domain-number-is (parabola-of d) _) ∙ e in
+    let f : domain-number d (length list) ≡ suc n = sym (domain-number-is (centred-of d) _) ∙ e in
     let kept : domain-number d (length list) ≡ 0 → ⊥ = λ z. omega (arith, z, f) in
     (refused-old _ _ marks kept, refused-old _ _ list kept, rw f)
 
 domain-marks : (d : Domain) (marks list : List ℕ) → domain-refusal (domain-answer d (length list)) ≡ 0
-    → marks-after d (length list) marks ≡ phases.marks (parabola-of d)
+    → marks-after d (length list) marks ≡ marks-of d
 unfolding domain-answer marks-after
-domain-marks d marks list e = unrefused-new _ marks (sym (domain-number-is (parabola-of d) _) ∙ e)
+domain-marks d marks list e = unrefused-new _ marks (sym (domain-number-is (centred-of d) _) ∙ e)
 
 pub promised : Promised
 unfolding verdict-number regular-memory fine-memory scan-memory domain-memory regular-answer fine-answer scan-answer domain-answer segments.refusal scan-number domain-number
@@ -111,8 +110,8 @@ promised =
       scan-unchanged = scan-unchanged;
       scan-number = λ n old. refl;
       domain-is = λ M c0 c1 s N w. refl;
-      domain-accepted = λ d list. through (domain-number-is (parabola-of d) _) (accepts (domain-checks d (length list)) (omega arith));
-      domain-refused = λ d n list. through (domain-number-is (parabola-of d) _) (refuses (domain-checks d (length list)) n);
+      domain-accepted = λ d list. through (domain-number-is (centred-of d) _) (accepts (domain-checks d (length list)) (omega arith));
+      domain-refused = λ d n list. through (domain-number-is (centred-of d) _) (refuses (domain-checks d (length list)) n);
       domain-unchanged = domain-unchanged;
       domain-marks = domain-marks;
       domain-numbers = λ v n searched. refl;

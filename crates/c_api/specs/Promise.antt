@@ -16,9 +16,7 @@ use Rattle.segment.specs.declared.Regular.{Regular}
 use Rattle.segment.specs.declared.Fine.{Fine}
 use Rattle.segment.specs.declared.RegularAnswer.the-variants as regular-variants
 use Rattle.segment.specs.declared.FineAnswer.the-variants as fine-variants
-use Rattle.domain.specs.Domain.{parabola-of}
-use Rattle.domain.specs.Phases as phases
-use Rattle.domain.specs.Answer.{domain-answer, marks-after, list-after, domain-refusal, scan-answer, scan-list-after, scan-refusal}
+use Rattle.domain.specs.Answer.{domain-answer, marks-of, marks-after, list-after, domain-refusal, scan-answer, scan-list-after, scan-refusal}
 use Rattle.domain.specs.Promise as domain-promise
 use Rattle.domain.specs.declared.ScanAnswer.the-variants as scan-variants
 use Rattle.domain.specs.declared.Domain.{Domain}
@@ -64,6 +62,6 @@ pub record Promised : Type 0 where
   pub domain-unchanged : (d : Domain) (n : ℕ) (marks list searched : List ℕ) → domain-refusal (domain-answer d (length list)) ≡ suc n
       → (marks-after d (length list) marks ≡ marks) × (list-after d list ≡ list) × (domain-memory (domain-answer d (length list)) searched ≡ searched)
   pub domain-marks : (d : Domain) (marks list : List ℕ) → domain-refusal (domain-answer d (length list)) ≡ 0
-      → marks-after d (length list) marks ≡ phases.marks (parabola-of d)
+      → marks-after d (length list) marks ≡ marks-of d
   pub domain-numbers : (first : Verdict) (listed : ℕ) (searched : List ℕ)
       → domain-memory (domain-variants.Searched first listed) searched ≡ verdict-number first ∷ listed ∷ []

@@ -24,11 +24,12 @@ use Rattle.segment.specs.Search.{verdict}
 use Rattle.segment.specs.declared.Verdict.the-variants.{Clear, Possible}
 use Rattle.segment.proofs.Promises as segment-promises
 use Rattle.parabola.specs.Parabola.{Parabola, In-range, Divisible, hard-list, covering, line}
+use Rattle.parabola.proofs.Laws.{centred-divisible}
 use Rattle.arc.specs.Arc.{parabola, arc-verdict}
 use Rattle.arc.specs.Arc as arc
 use Rattle.arc.specs.declared.Arc.{Arc}
 use Rattle.arc.proofs.Promises as arc-promises
-use Rattle.domain.specs.Domain.{parabola-of, checks, refusal, Accepted}
+use Rattle.domain.specs.Domain.{centred-of, hard-arguments, covering-of, checks, refusal, Accepted}
 use Rattle.domain.specs.Phases.{marks-by, marks, report}
 use Rattle.domain.specs.Answer.{room, domain-number, answer-with, domain-answer, marks-after, list-after, too-few, marks-with, list-with, scan-number, scan-answer-with}
 use Rattle.domain.specs.declared.Domain.{Domain}
@@ -99,11 +100,11 @@ as-arc d =
 room-iff : (xs : List ℕ) (places : ℕ) → (first-failing (room xs places) ≡ 0) ↔ (length xs ≤ places)
 room-iff xs places = let r = accepts (room xs places) (omega arith) in (λ e. r .0 e .0, λ h. r .1 (h, tt))
 
-pub number-accepts : (d : Domain) (places : ℕ) → (domain-number d places ≡ 0) ↔ (Accepted d × (length (hard-list (parabola-of d)) ≤ places))
+pub number-accepts : (d : Domain) (places : ℕ) → (domain-number d places ≡ 0) ↔ (Accepted d × (length (hard-arguments d) ≤ places))
 unfolding domain-number
 number-accepts d places =
-    let r = neither-refuses (checks d) (room (hard-list (parabola-of d)) places) (omega arith) in
-    let m = room-iff (hard-list (parabola-of d)) places in
+    let r = neither-refuses (checks d) (room (hard-arguments d) places) (omega arith) in
+    let m = room-iff (hard-arguments d) places in
     let a = accepted-iff d in
     (λ e. let h = r .0 e in (a .0 (unfold refusal in h .0), m .0 (h .1)), λ h. r .1 (unfold refusal in a .1 (h .0), m .1 (h .1)))
 
@@ -152,35 +153,35 @@ module _ (d : Domain) (old-marks old : List ℕ) where
   -- a refusal before anything is searched
   pub domain-refused : {n : ℕ} → n ≡ refusal d → (n ≡ 0 → ⊥) → Answered d old-marks old (domain-variants.Refused n) old-marks old
   unfolding domain-answer marks-after list-after domain-number refusal
-  domain-refused {n} e h = rw (first-of-two (checks d) (room (hard-list (parabola-of d)) (length old)) (sym e) h) (refused-with n (parabola-of d) old-marks old h)
+  domain-refused {n} e h = rw (first-of-two (checks d) (room (hard-arguments d) (length old)) (sym e) h) (refused-with n (centred-of d) old-marks old h)
 
   module _ (a : Accepted d) where
     -- an accepted one can be refused by 7 alone
-    number-is : domain-number d (length old) ≡ too-few (parabola-of d) (length old)
+    number-is : domain-number d (length old) ≡ too-few (centred-of d) (length old)
     unfolding domain-number too-few refusal
     number-is =
-        second-of-two (checks d) (room (hard-list (parabola-of d)) (length old)) (accepts (checks d) (omega arith) .0 (accepted-iff d .1 a))
+        second-of-two (checks d) (room (hard-arguments d) (length old)) (accepts (checks d) (omega arith) .0 (accepted-iff d .1 a))
 
     -- phase 1 clears it
-    pub domain-cleared : {b : Arc} → parabola b ≡ parabola-of d → arc-verdict regular b ≡ Clear
+    pub domain-cleared : {b : Arc} → parabola b ≡ centred-of d → arc-verdict regular b ≡ Clear
         → Answered d old-marks old (domain-variants.Searched Clear 0) (replicate 8 0) old
     unfolding domain-answer marks-after list-after too-few answer-with unless-refused marks-by overwrite-front
     domain-cleared {b} e c =
-        let r : In-range (parabola b) = rw e (a .in-range) in
-        let v : verdict regular (covering (parabola-of d)) ≡ Clear
+        let r : In-range (parabola b) = rw e (centred-divisible a .in-range) in
+        let v : verdict regular (covering-of d) ≡ Clear
         = ap (λ (p : Parabola). verdict regular (covering p)) (sym e) ∙ sym (arc-promises.promised .arcs b .verdict-is regular r) ∙ c in
-        let nothing : hard-list (parabola-of d) ≡ [] = ap hard-list (sym e) ∙ none-listed regular b c in
-        rw (number-is, accepted (room (hard-list (parabola-of d)) (length old)) (omega (arith, ap length nothing), tt), v, nothing) (refl, (refl, refl))
+        let nothing : hard-arguments d ≡ [] = ap hard-list (sym e) ∙ none-listed regular b c in
+        rw (number-is, accepted (room (hard-arguments d) (length old)) (omega (arith, ap length nothing), tt), v, nothing) (refl, (refl, refl))
 
     -- or it does not
-    pub searched-requires : {b : Arc} → parabola b ≡ parabola-of d → arc-verdict regular b ≡ Possible
+    pub searched-requires : {b : Arc} → parabola b ≡ centred-of d → arc-verdict regular b ≡ Possible
         → Divisible (parabola b) × (verdict regular (covering (parabola b)) ≡ Possible)
     searched-requires {b} e c =
-        let r : In-range (parabola b) = rw e (a .in-range) in
-        (rw e a, sym (arc-promises.promised .arcs b .verdict-is regular r) ∙ c)
+        let r : In-range (parabola b) = rw e (centred-divisible a .in-range) in
+        (rw e (centred-divisible a), sym (arc-promises.promised .arcs b .verdict-is regular r) ∙ c)
 
     -- phases 2 and 3 search it
-    pub domain-searched : {p : Parabola} → p ≡ parabola-of d → {answer : DomainAnswer} {new-marks new : List ℕ}
+    pub domain-searched : {p : Parabola} → p ≡ centred-of d → {answer : DomainAnswer} {new-marks new : List ℕ}
         → Leaves (too-few p (length old)) p old-marks old answer new-marks new → Answered d old-marks old answer new-marks new
     unfolding domain-answer marks-after list-after
     domain-searched e l = rw number-is (rw e at l)

@@ -1,6 +1,6 @@
 -- Hard in a call's own numbers is hard by the definition of values, or of residues. Assumes nothing.
-use mathlib.Core.Path.{_≡_, refl, ap}
-use mathlib.Core.Logic.{_↔_}
+use mathlib.Core.Path.{_≡_, refl, ap, subst}
+use mathlib.Core.Logic.{_↔_, _⊎_}
 use Prim.Native.Nat.{ℕ, _+_, _-_, _*_, _/_, _<_}
 use native.Mathlib.Nat.{div-add-mod'}
 use native.Mathlib.Omega.{arith}
@@ -11,10 +11,10 @@ use Rattle.geometry.specs.Segment.{Segment, residue}
 use Rattle.geometry.specs.Segment as geometry
 use Rattle.geometry.proofs.Laws.{residue-lt, residue-congruent}
 use Rattle.geometry.proofs.Promises as geometry-promises
-use Rattle.parabola.specs.Parabola.{Hard, triangle, value-at}
+use Rattle.parabola.specs.Parabola.{Hard, Near, triangle, value-at}
 use Rattle.parabola.proofs.Laws.{triangle-twice, value-congruent, value-is}
 use Rattle.parabola.proofs.Promises.{promised}
-use Rattle.domain.specs.Domain.{parabola-of}
+use Rattle.domain.specs.Domain.{parabola-of, centred-of, Accepted}
 use Rattle.domain.specs.Promise.{Hard-in-numbers, Hard-in-segment}
 use Rattle.domain.specs.declared.Domain.{Domain}
 
@@ -29,24 +29,31 @@ module _ (d : Domain) (x : ℕ) where
   twice : (n : ℕ) → n * (x * (x - 1)) ≡ 2 * (n * triangle x)
   twice n = omega (arith, ap (λ (m : ℕ). n * m) (triangle-twice x))
 
-  pub hard-by-numbers : 0 < d .modulus → Hard (parabola-of d) x ↔ Hard-in-numbers d x
-  hard-by-numbers positive = (to, from)
+  near-by-numbers : 0 < d .modulus → Near (parabola-of d) x ↔ Hard-in-numbers d x
+  near-by-numbers positive = (to, from)
     where
-      to : Hard (parabola-of d) x → Hard-in-numbers d x
+      to : Near (parabola-of d) x → Hard-in-numbers d x
       to h =
           let c = value-congruent (parabola-of d) positive x in
           let e = same-integer (number (2 * value-at (parabola-of d) x)) (doubled (difference (c .under) (c .over)))
           (omega (arith, c .equal, twice (gain (d .curve)), twice (loss (d .curve)))) in
           (h .0, (value-at (parabola-of d) x, promised .values (parabola-of d) positive .in-range x, h .1, (subℕ (c .under) (c .over), e)))
 
-      from : Hard-in-numbers d x → Hard (parabola-of d) x
+      from : Hard-in-numbers d x → Near (parabola-of d) x
       from h =
           let v = h .1 .0 in
           let k = h .1 .3 .0 in
           let e = balanced (h .1 .3 .1) (number (2 * v)) (doubled {k = k} {a = gain k} {b = loss k} (record { balance = refl })) in
           let c : Congruent (d .modulus) (v + loss (d .curve) * triangle x) (d .value + d .slope * x + gain (d .curve) * triangle x)
           = record { over = loss k; under = gain k; equal = omega (arith, e, twice (gain (d .curve)), twice (loss (d .curve))) } in
-          (h .0, omega (arith, h .1 .2, value-is (parabola-of d) positive x (h .1 .1) c))
+          (h .0, subst (λ (u : ℕ). (u < d .window) ⊎ (d .modulus - u < d .window)) (value-is (parabola-of d) positive x (h .1 .1) c) (h .1 .2))
+
+  -- it is hard by the test of the parabola that the phases search
+  pub hard-by-numbers : Accepted d → Hard (centred-of d) x ↔ Hard-in-numbers d x
+  hard-by-numbers a =
+      let near = near-by-numbers (omega (arith, a .in-range .value-below)) in
+      let hard = promised .centred-correct (parabola-of d) (a .in-range) .hard x in
+      (λ h. near .0 (hard .0 h), λ h. hard .1 (near .1 h))
 
 -- of a segment
 module _ (s : Segment) (x : ℕ) where

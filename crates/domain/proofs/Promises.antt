@@ -1,15 +1,17 @@
 -- All that is promised of domains and scans. Assumes nothing.
 use mathlib.Core.Path.{_≡_, refl, sym, _∙_, ap, ap₂, subst}
 use mathlib.Core.List.{List, []}
-use mathlib.Core.Logic.{_↔_}
+use mathlib.Core.Logic.{_↔_, ⊎-elim}
 use Prim.Native.Nat.{ℕ, zero, suc, _≤_}
 use native.Mathlib.Omega.{arith}
 use lib.Dec.{ltb}
+use borrow.Author.Tests.{le-ltb}
 use lib.ListN.{length, take}
 use Rattle.numbers.specs.Checklist.{unless-refused}
 use Rattle.numbers.specs.Lists.{count-if, overwrite-front}
 use Rattle.numbers.specs.Promise.{Enumerates, Buffer-correct}
 use Rattle.numbers.proofs.Checklists.{gives, unrefused-new, refused-old}
+use Rattle.numbers.proofs.Selections.{filter-empty}
 use Rattle.numbers.proofs.Buffers.{front-correct, front-taken, front-ascends}
 use Rattle.expansion.specs.Reached.Search.{regular}
 use Rattle.geometry.specs.Segment.{Segment, residue}
@@ -19,14 +21,14 @@ use Rattle.segment.specs.Accepted as segment
 use Rattle.segment.specs.Search.{verdict}
 use Rattle.segment.specs.declared.Verdict.{Verdict}
 use Rattle.segment.specs.declared.Verdict.the-variants.{Clear}
-use Rattle.parabola.specs.Parabola.{Parabola, In-range, triangle, value-at, slope-at, hard-list, Hard, covering, continued, part-start, part-count, part}
-use Rattle.parabola.specs.Promise.{Covering-correct}
+use Rattle.parabola.specs.Parabola.{Parabola, In-range, triangle, value-at, slope-at, is-hard, hard-list, Hard, Near, centred, covering, continued, part-start, part-count, part}
+use Rattle.parabola.specs.Promise.{Covering-both-correct}
+use Rattle.parabola.proofs.Laws.{centred-divisible}
 use Rattle.parabola.proofs.Promises as parabola
 use Rattle.arc.proofs.Promises as arc
-use Rattle.domain.specs.Domain.{parabola-of, Accepted}
+use Rattle.domain.specs.Domain.{parabola-of, centred-of, hard-arguments, covering-of, part-covering, Accepted}
 use Rattle.domain.specs.Scan.{next-point}
-use Rattle.domain.specs.Phases.{marks}
-use Rattle.domain.specs.Answer.{domain-checks, domain-number, answer-with, domain-answer, marks-after, list-after, domain-refusal, domain-first, domain-count, scan-checks, scan-number, scan-answer-with, scan-answer, scan-list-after, scan-refusal, scan-count}
+use Rattle.domain.specs.Answer.{domain-checks, domain-number, answer-with, domain-answer, marks-of, marks-after, list-after, domain-refusal, domain-first, domain-count, scan-checks, scan-number, scan-answer-with, scan-answer, scan-list-after, scan-refusal, scan-count}
 use Rattle.domain.specs.Promise.{Parabola-correct, Hard-in-numbers, Hard-in-segment, Coverings-correct, Refused-for, Scan-refused-for, Marks-correct, Domain-correct, Scan-correct, Promised}
 use Rattle.domain.specs.declared.Domain.{Domain}
 use Rattle.domain.specs.declared.DomainAnswer.the-variants as domain-variants
@@ -40,26 +42,49 @@ unfolding value-at triangle
 parabola-correct d =
     record { unit = refl; start = refl; slope = refl; curve = refl; count = refl; window = refl; value = λ x. refl }
 
+-- ---- hard arguments
+
+hard-lists : (d : Domain) → Accepted d → Enumerates (Near (parabola-of d)) (count-if (is-hard (centred-of d)) (d .count) 0) (hard-arguments d)
+unfolding centred
+hard-lists d a =
+    let l = parabola.promised .hard-lists (centred-of d) (a .in-range .count-high) in
+    let near = parabola.promised .centred-correct (parabola-of d) (a .in-range) .hard in
+    record {
+      exactly = λ x. (λ m. near x .0 (l .exactly x .0 m), λ n. l .exactly x .1 (near x .1 n));
+      ascending = l .ascending;
+      fits = l .fits;
+      counted = l .counted;
+    }
+
+without-window : (d : Domain) → Accepted d → d .window ≡ 0
+    → (centred-of d ≡ parabola-of d) × (hard-arguments d ≡ []) × ((x : ℕ) → Hard-in-numbers d x → ⊥)
+unfolding hard-list is-hard
+without-window d a e =
+    let same = parabola.promised .centred-correct (parabola-of d) (a .in-range) .unchanged e in (
+      same,
+      ap hard-list same ∙ filter-empty (is-hard (parabola-of d)) (d .count) 0 (λ y l h. le-ltb (value-at (parabola-of d) y) (d .window) (omega arith)),
+      λ x h. ⊎-elim (λ l. omega (arith, l)) (λ l. omega (arith, l)) (h .1 .2),
+    )
+
 -- ---- covering segments
 
--- of a parabola within the bounds
-within-bounds : {p : Parabola} → In-range p → segment.Accepted (covering p) × Covering-correct p
-within-bounds {p} r =
-    (arc.promised .arcs (arc-of p) .covering-accepted r, parabola.promised .coverings p (omega (arith, r .value-below)) (r .slope-below))
+-- the searches accept those of parabolas within the bounds
+accepted-covering : {p : Parabola} → In-range p → segment.Accepted (covering p)
+accepted-covering {p} r = arc.promised .arcs (arc-of p) .covering-accepted r
 
 coverings-correct : (d : Domain) → Accepted d → Coverings-correct d
 coverings-correct d a =
-    let whole = within-bounds (a .in-range) in
+    let whole = parabola.promised .centred-correct (parabola-of d) (a .in-range) in
     let parts = parabola.promised .parts (parabola-of d) a in
-    let of-part : (i : ℕ) → segment.Accepted (covering (part (parabola-of d) i)) × Covering-correct (part (parabola-of d) i)
-    = λ i. within-bounds (parts .in-range-of i) in
+    let covers : (i : ℕ) → Covering-both-correct (part (parabola-of d) i) (part-covering d i)
+    = λ i. rw (whole .parts i) (parabola.promised .centred-correct (part (parabola-of d) i) (parts .in-range-of i) .covering-both) in
     record {
-      whole = whole .1 .numbers;
-      whole-accepted = whole .0;
-      whole-covers = whole .1;
-      of-part = λ i h l e. unfold continued part-start part-count value-at slope-at triangle in rw e (of-part i .1 .numbers);
-      part-accepted = λ i l. of-part i .0;
-      part-covers = λ i l. of-part i .1;
+      whole = whole .covering-both .numbers;
+      whole-accepted = accepted-covering (whole .in-range);
+      whole-covers = whole .covering-both;
+      of-part = λ i h l e. unfold continued part-start part-count value-at slope-at triangle in rw e (covers i .numbers);
+      part-accepted = λ i l. accepted-covering (parabola.promised .parts (centred-of d) (centred-divisible a) .in-range-of i);
+      part-covers = λ i l. covers i;
     }
 
 -- ---- domains
@@ -86,7 +111,7 @@ nothing-over old e = rw e refl
 module _ (d : Domain) (old-marks old : List ℕ) where
   -- what is accepted leaves the marks and the list
   searched-leaves : domain-number d (length old) ≡ 0
-      → (marks-after d (length old) old-marks ≡ marks (parabola-of d)) × (list-after d old ≡ overwrite-front (hard-list (parabola-of d)) old)
+      → (marks-after d (length old) old-marks ≡ marks-of d) × (list-after d old ≡ overwrite-front (hard-arguments d) old)
   unfolding marks-after list-after
   searched-leaves e = (unrefused-new _ old-marks e, unrefused-new _ old e)
 
@@ -105,44 +130,44 @@ module _ (d : Domain) (old-marks old : List ℕ) where
         );
         written = λ v n e. searched-leaves (reports v n .0 e .0);
         marked = λ v n e. let r = reports v n .0 e in
-            subst (λ (m : List ℕ). Marks-correct (parabola-of d) v m) (sym (searched-leaves (r .0) .0))
-            (rw (r .1) (marks-correct (taken (r .0) .0) (verdict regular (covering (parabola-of d)))));
+            subst (λ (m : List ℕ). Marks-correct d v m) (sym (searched-leaves (r .0) .0))
+            (rw (r .1) (marks-correct (taken (r .0) .0) (verdict regular (covering-of d))));
         cleared = λ n e. cleared n (reports Clear n .0 e);
         buffer = λ v n e. buffer (reports v n .0 e .0);
         hard = λ v n e. let r = reports v n .0 e in hard n (r .0) (r .2);
         ascends = λ v n e. let r = reports v n .0 e in
             let b = buffer (r .0) in
-            let l = parabola.promised .hard-lists (parabola-of d) (taken (r .0) .0 .in-range .count-high) in
+            let l = parabola.promised .hard-lists (centred-of d) (centred-divisible (taken (r .0) .0) .in-range .count-high) in
             λ i j h k. front-ascends b (l .ascending) i j h (omega (arith, r .2));
       }
     where
       number : ℕ
       number = domain-number d (length old)
 
-      refuses : (n : ℕ) → (answer-with (domain-number d (length old)) (parabola-of d) ≡ domain-variants.Refused n) ↔ ((domain-number d (length old) ≡ n) × (n ≡ 0 → ⊥))
-      refuses = refuses-with (parabola-of d) (domain-number d (length old))
+      refuses : (n : ℕ) → (answer-with (domain-number d (length old)) (centred-of d) ≡ domain-variants.Refused n) ↔ ((domain-number d (length old) ≡ n) × (n ≡ 0 → ⊥))
+      refuses = refuses-with (centred-of d) (domain-number d (length old))
 
-      reports : (v : Verdict) (n : ℕ) → (answer-with (domain-number d (length old)) (parabola-of d) ≡ domain-variants.Searched v n)
-          ↔ ((domain-number d (length old) ≡ 0) × (v ≡ verdict regular (covering (parabola-of d))) × (n ≡ length (hard-list (parabola-of d))))
-      reports = reports-with (parabola-of d) (domain-number d (length old))
+      reports : (v : Verdict) (n : ℕ) → (answer-with (domain-number d (length old)) (centred-of d) ≡ domain-variants.Searched v n)
+          ↔ ((domain-number d (length old) ≡ 0) × (v ≡ verdict regular (covering-of d)) × (n ≡ length (hard-arguments d)))
+      reports = reports-with (centred-of d) (domain-number d (length old))
 
       by-number : (n : ℕ) → ((domain-number d (length old) ≡ n) × (n ≡ 0 → ⊥)) ↔ Refused-for d (length old) n
       by-number = unfold domain-number in gives (domain-checks d (length old)) (omega arith)
 
-      taken : domain-number d (length old) ≡ 0 → Accepted d × (length (hard-list (parabola-of d)) ≤ length old)
+      taken : domain-number d (length old) ≡ 0 → Accepted d × (length (hard-arguments d) ≤ length old)
       taken = number-accepts d (length old) .0
 
-      buffer : domain-number d (length old) ≡ 0 → Buffer-correct (hard-list (parabola-of d)) old (list-after d old)
-      buffer e = subst (Buffer-correct (hard-list (parabola-of d)) old) (sym (searched-leaves e .1)) (front-correct (hard-list (parabola-of d)) old (taken e .1))
+      buffer : domain-number d (length old) ≡ 0 → Buffer-correct (hard-arguments d) old (list-after d old)
+      buffer e = subst (Buffer-correct (hard-arguments d) old) (sym (searched-leaves e .1)) (front-correct (hard-arguments d) old (taken e .1))
 
-      by-numbers : (e : domain-number d (length old) ≡ 0) (x : ℕ) → Hard (parabola-of d) x ↔ Hard-in-numbers d x
-      by-numbers e x = hard-by-numbers d x (omega (arith, taken e .0 .in-range .value-below))
+      by-numbers : (e : domain-number d (length old) ≡ 0) (x : ℕ) → Hard (centred-of d) x ↔ Hard-in-numbers d x
+      by-numbers e x = hard-by-numbers d x (taken e .0)
 
-      hard : (n : ℕ) → domain-number d (length old) ≡ 0 → n ≡ length (hard-list (parabola-of d)) → Enumerates (Hard-in-numbers d) n (take n (list-after d old))
+      hard : (n : ℕ) → domain-number d (length old) ≡ 0 → n ≡ length (hard-arguments d) → Enumerates (Hard-in-numbers d) n (take n (list-after d old))
       hard n e f =
-          let l = parabola.promised .hard-lists (parabola-of d) (taken e .0 .in-range .count-high) in
-          let t : take n (list-after d old) ≡ hard-list (parabola-of d)
-          = ap₂ take f (searched-leaves e .1) ∙ front-taken (hard-list (parabola-of d)) old in
+          let l = parabola.promised .hard-lists (centred-of d) (centred-divisible (taken e .0) .in-range .count-high) in
+          let t : take n (list-after d old) ≡ hard-arguments d
+          = ap₂ take f (searched-leaves e .1) ∙ front-taken (hard-arguments d) old in
           subst (Enumerates (Hard-in-numbers d) n) (sym t)
           (record {
             exactly = λ x. (λ m. by-numbers e x .0 (l .exactly x .0 m), λ h. l .exactly x .1 (by-numbers e x .1 h));
@@ -151,14 +176,14 @@ module _ (d : Domain) (old-marks old : List ℕ) where
             counted = sym f;
           })
 
-      cleared : (n : ℕ) → (domain-number d (length old) ≡ 0) × (Clear ≡ verdict regular (covering (parabola-of d))) × (n ≡ length (hard-list (parabola-of d)))
+      cleared : (n : ℕ) → (domain-number d (length old) ≡ 0) × (Clear ≡ verdict regular (covering-of d)) × (n ≡ length (hard-arguments d))
           → (n ≡ 0) × (list-after d old ≡ old) × ((x : ℕ) → Hard-in-numbers d x → ⊥)
       cleared n r =
           let a = taken (r .0) .0 in
-          let z : hard-list (parabola-of d) ≡ [] = nothing-listed regular (a .in-range) (sym (r .1)) in (
+          let z : hard-arguments d ≡ [] = nothing-listed regular (centred-divisible a .in-range) (sym (r .1)) in (
             r .2 ∙ ap length z,
             searched-leaves (r .0) .1 ∙ nothing-over old z,
-            λ x h. phases-correct a .first-none (sym (r .1)) x (by-numbers (r .0) x .1 h),
+            λ x h. phases-correct a .first-none (sym (r .1)) x h,
           )
 
 -- ---- scans
@@ -232,10 +257,13 @@ promised =
     record {
       parabolas = parabola-correct;
       values = λ d positive. parabola.promised .values (parabola-of d) positive;
-      hard-lists = λ d a. parabola.promised .hard-lists (parabola-of d) (a .in-range .count-high);
+      centred = λ d a. parabola.promised .centred-correct (parabola-of d) (a .in-range);
+      hard-lists = hard-lists;
+      without-window = without-window;
       accepted = λ d. (λ a. omega arith, λ h. omega arith);
       coverings = coverings-correct;
       parts = λ d a. parabola.promised .parts (parabola-of d) a;
+      centred-parts = λ d a. parabola.promised .parts (centred-of d) (centred-divisible a);
       differences = λ p x positive. unfold next-point in
           let v = parabola.promised .values p positive in λ j. record { value = sym (v .differences x) j; slope = sym (v .slope-differences x) j };
       phases = λ d a. phases-correct a;

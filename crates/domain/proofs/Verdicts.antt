@@ -16,14 +16,18 @@ use Rattle.segment.specs.declared.Verdict.{Verdict}
 use Rattle.segment.specs.declared.Verdict.the-variants.{Clear, Possible}
 use Rattle.segment.proofs.Laws.{apart}
 use Rattle.segment.proofs.Promises as segment
-use Rattle.parabola.specs.Parabola.{Parabola, In-range, Divisible, value-at, Hard, hard-list, covering, part-start, part}
+use Rattle.parabola.specs.Parabola.{Parabola, In-range, value-at, Hard, centred, hard-list, covering, part-start, part-count, part}
 use Rattle.parabola.specs.Promise.{Parts-correct}
 use Rattle.parabola.proofs.Promises as parabola
+use Rattle.parabola.proofs.Laws.{centred-divisible}
 use Rattle.arc.specs.declared.Arc.{Arc}
 use Rattle.arc.proofs.Promises as arc
-use Rattle.domain.proofs.Parts.{none-listed}
+use Rattle.domain.specs.Domain.{parabola-of, centred-of, part-covering, Accepted}
 use Rattle.domain.specs.Phases.{mark-of, part-mark, part-marks, marks-by}
 use Rattle.domain.specs.Promise.{None-in-part, Phases-correct, Marks-correct}
+use Rattle.domain.specs.declared.Domain.{Domain}
+use Rattle.domain.proofs.Parts.{none-listed}
+use Rattle.domain.proofs.Numbers.{hard-by-numbers}
 
 -- the arc of a parabola
 abbrev pub arc-of : Parabola → Arc
@@ -41,24 +45,38 @@ cleared k {p} range e = arc.promised .arcs (arc-of p) .clear k (arc.promised .ar
 pub nothing-listed : (k : Search) {p : Parabola} → In-range p → verdict k (covering p) ≡ Clear → hard-list p ≡ []
 nothing-listed k {p} range e = none-listed k (arc-of p) (arc.promised .arcs (arc-of p) .verdict-is k range ∙ e)
 
-module _ {p : Parabola} (d : Divisible p) where
-  parts : Parts-correct p
-  parts = parabola.promised .parts p d
+module _ {d : Domain} (a : Accepted d) where
+  whole : In-range (centred-of d)
+  whole = centred-divisible a .in-range
 
-  part-none : (i : ℕ) → verdict fine (covering (part p i)) ≡ Clear → None-in-part p i
-  part-none i e x l h v =
-      let y : part-start p i + (x - part-start p i) ≡ x = omega arith in
-      cleared fine (parts .in-range-of i) e (x - part-start p i) (
-        omega (arith, parts .length-of i),
-        omega (arith, v, ap (value-at p) y, parts .continues i (x - part-start p i), parts .same i .2),
+  parts : Parts-correct (centred-of d)
+  parts = parabola.promised .parts (centred-of d) (centred-divisible a)
+
+  -- centred or not, a part has the same arguments
+  same-part : (i : ℕ) → (part-start (centred-of d) i ≡ part-start (parabola-of d) i) × (part-count (centred-of d) i ≡ part-count (parabola-of d) i)
+  unfolding part-start part-count centred
+  same-part i = (refl, refl)
+
+  part-none : (i : ℕ) → verdict fine (part-covering d i) ≡ Clear → None-in-part d i
+  part-none i e x l h =
+      let y : part-start (centred-of d) i + (x - part-start (centred-of d) i) ≡ x = omega (arith, l .0, same-part i .0) in
+      cleared fine (parts .in-range-of i) e (x - part-start (centred-of d) i) (
+        omega (arith, l .0, l .1, parts .length-of i, same-part i .0, same-part i .1),
+        omega (
+          arith,
+          hard-by-numbers d x a .1 h .1,
+          ap (value-at (centred-of d)) y,
+          parts .continues i (x - part-start (centred-of d) i),
+          parts .same i .2,
+        ),
       )
 
-  pub phases-correct : Phases-correct p
+  pub phases-correct : Phases-correct d
   phases-correct =
       record {
-        first-cleared = verdicts regular (d .in-range) .answered;
-        first-distance = verdicts regular (d .in-range) .by-distance;
-        first-none = cleared regular (d .in-range);
+        first-cleared = verdicts regular whole .answered;
+        first-distance = verdicts regular whole .by-distance;
+        first-none = λ e x h. cleared regular whole e x (hard-by-numbers d x a .1 h);
         part-cleared = λ i. verdicts fine (parts .in-range-of i) .answered;
         part-distance = λ i. verdicts fine (parts .in-range-of i) .by-distance;
         part-none = part-none;
@@ -95,9 +113,9 @@ eight-small : (xs : List ℕ) → length xs ≡ 8 → ((i : ℕ) → i < 8 → g
 eight-small xs e small i =
     by-cases (decLt i 8) (small i) (λ h. omega (arith, List·getD-eq-default xs 0 {n = i} (omega (arith, e))))
 
-pub marks-correct : {p : Parabola} → Divisible p → (v : Verdict) → Marks-correct p v (marks-by v p)
+pub marks-correct : {d : Domain} → Accepted d → (v : Verdict) → Marks-correct d v (marks-by v (centred-of d))
 unfolding marks-by
-marks-correct d Clear =
+marks-correct a Clear =
     record {
       eight = refl;
       at-most-2 = eight-small (replicate 8 0) refl (λ i h. omega (arith, getD-replicate {A = ℕ} 8 i 0 0 h));
@@ -107,13 +125,14 @@ marks-correct d Clear =
       none-hard = λ i h e. absurd (omega (arith, e, getD-replicate {A = ℕ} 8 i 0 0 h));
       hard-in-2 = λ e. absurd (apart e);
     }
-marks-correct {p} d Possible =
+marks-correct {d} a Possible =
+    let p = centred-of d in
     record {
       eight = tabulate-length (part-mark p) 8 0;
       at-most-2 = eight-small (part-marks p) (tabulate-length (part-mark p) 8 0) (λ i h. omega (arith, mark-at p i h, mark-small (verdict fine (covering (part p i)))));
       not-looked-at = λ e. absurd (apart (sym e));
       clear = λ e i h. through (mark-at p i h) (mark-clear _);
       possible = λ e i h. through (mark-at p i h) (mark-possible _);
-      none-hard = λ i h e. part-none d i (mark-clear _ .0 (sym (mark-at p i h) ∙ e));
-      hard-in-2 = λ e i h x l k v. mark-at p i h ∙ mark-possible _ .1 (otherwise _ (λ c. part-none d i c x l k v));
+      none-hard = λ i h e. part-none a i (mark-clear _ .0 (sym (mark-at p i h) ∙ e));
+      hard-in-2 = λ e i h x l n. mark-at p i h ∙ mark-possible _ .1 (otherwise _ (λ c. part-none a i c x l n));
     }

@@ -13,7 +13,7 @@ use Rattle.segment.specs.Search.{verdict}
 use Rattle.segment.specs.declared.Verdict.{Verdict}
 use Rattle.segment.specs.declared.Verdict.the-variants.{Possible}
 use Rattle.parabola.specs.Parabola.{Parabola, hard-list, covering}
-use Rattle.domain.specs.Domain.{parabola-of, checks}
+use Rattle.domain.specs.Domain.{centred-of, hard-arguments, checks}
 use Rattle.domain.specs.Phases.{marks}
 use Rattle.domain.specs.declared.Domain.{Domain}
 use Rattle.domain.specs.declared.DomainAnswer.{DomainAnswer}
@@ -29,7 +29,7 @@ room xs places = check 7 (decLe (length xs) places) ∷ []
 
 -- what is asked of a domain with a list of so many places
 abbrev pub domain-checks : Domain → (places : ℕ) → List Check
-domain-checks d places = checks d ++ room (hard-list (parabola-of d)) places
+domain-checks d places = checks d ++ room (hard-arguments d) places
 
 -- the number of the first condition that does not hold, or 0
 unfoldable pub domain-number : Domain → (places : ℕ) → ℕ
@@ -42,15 +42,19 @@ answer-with (suc n) p = domain-variants.Refused (suc n)
 
 -- the answer for a domain and a list of so many places
 unfoldable pub domain-answer : Domain → (places : ℕ) → DomainAnswer
-domain-answer d places = answer-with (domain-number d places) (parabola-of d)
+domain-answer d places = answer-with (domain-number d places) (centred-of d)
+
+-- the eight marks of a domain
+abbrev pub marks-of : Domain → List ℕ
+marks-of d = marks (centred-of d)
 
 -- the caller's marks then
 unfoldable pub marks-after : Domain → (places : ℕ) → (old : List ℕ) → List ℕ
-marks-after d places old = unless-refused (domain-number d places) (marks (parabola-of d)) old
+marks-after d places old = unless-refused (domain-number d places) (marks-of d) old
 
 -- and the caller's list: the hard arguments from the first place on, and the places after them as they were
 unfoldable pub list-after : Domain → (old : List ℕ) → List ℕ
-list-after d old = unless-refused (domain-number d (length old)) (overwrite-front (hard-list (parabola-of d)) old) old
+list-after d old = unless-refused (domain-number d (length old)) (overwrite-front (hard-arguments d) old) old
 
 -- the number of a domain's refusal; 0 where there is none
 unfoldable pub domain-refusal : DomainAnswer → ℕ

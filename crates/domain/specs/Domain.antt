@@ -1,5 +1,5 @@
--- A domain (document 01): which parabola it is, which domains are accepted, and by which number the others are refused. Assumes nothing: these are
--- definitions.
+-- A domain (document 01): which parabola it is, which of its arguments are hard (document 02, 2.1), which segments cover it and its parts, which domains
+-- are accepted, and by which number the others are refused. Assumes nothing: these are definitions.
 use mathlib.Core.List.{List, [], _∷_, _++_}
 use mathlib.Core.Logic.{Dec·and}
 use Prim.Native.Nat.{ℕ, _%_}
@@ -7,13 +7,29 @@ use native.Mathlib.Decide.{decLe, decLt, ℕ-discrete}
 use lib.IntN.{natAbs}
 use Rattle.numbers.specs.Checklist.{Check, check, first-failing}
 use Rattle.expansion.specs.Answer as expansion
-use Rattle.parabola.specs.Parabola.{Parabola, Divisible}
+use Rattle.geometry.specs.Segment.{Segment}
+use Rattle.parabola.specs.Parabola.{Parabola, centred, hard-list, covering, part, Divisible}
 use Rattle.domain.specs.declared.Domain.{Domain}
 
 -- the parabola of a domain
 abbrev pub parabola-of : Domain → Parabola
 parabola-of d =
     record { unit = d .modulus; value = d .value; slope = d .slope; curve = d .curve; count = d .count; window = d .window }
+
+-- the parabola that the phases search: its hard arguments are those of the domain, whose values lie less than the window from a multiple of the modulus
+abbrev pub centred-of : Domain → Parabola
+centred-of d = centred (parabola-of d)
+
+-- all hard arguments of a domain, ascending
+abbrev pub hard-arguments : Domain → List ℕ
+hard-arguments d = hard-list (centred-of d)
+
+-- the covering segment of a domain, and that of its part i
+abbrev pub covering-of : Domain → Segment
+covering-of d = covering (centred-of d)
+
+abbrev pub part-covering : Domain → (i : ℕ) → Segment
+part-covering d i = covering (part (centred-of d) i)
 
 -- what is asked of a domain, with the number of each refusal
 abbrev pub checks : Domain → List Check

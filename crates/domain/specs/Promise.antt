@@ -3,7 +3,7 @@
 -- proofs/Promises.antt proves it. Assumes nothing: these are statements.
 use mathlib.Core.Path.{_≡_}
 use mathlib.Core.List.{List, [], _∷_}
-use mathlib.Core.Logic.{_↔_}
+use mathlib.Core.Logic.{_↔_, _⊎_}
 use Prim.Native.Nat.{ℕ, suc, _+_, _-_, _*_, _/_, _%_, _^_, _≤_, _<_}
 use lib.IntN.{ℤ, pos, natAbs, _+ℤ_, _*ℤ_}
 use lib.ListN.{length, getD, take}
@@ -20,12 +20,11 @@ use Rattle.segment.specs.Search.{distance, verdict}
 use Rattle.segment.specs.Promise as segment-promise
 use Rattle.segment.specs.declared.Verdict.{Verdict}
 use Rattle.segment.specs.declared.Verdict.the-variants.{Clear, Possible}
-use Rattle.parabola.specs.Parabola.{Parabola, value-at, slope-at, second-difference, is-hard, hard-list, Hard, covering, part-start, part-count, part}
-use Rattle.parabola.specs.Promise.{Values-correct, Covers-by, Covering-correct, Parts-correct}
-use Rattle.domain.specs.Domain.{parabola-of, Accepted}
+use Rattle.parabola.specs.Parabola.{Parabola, value-at, slope-at, second-difference, is-hard, Near, part-start, part-count, part}
+use Rattle.parabola.specs.Promise.{Values-correct, Covers-both-by, Covering-both-correct, Centred-correct, Parts-correct}
+use Rattle.domain.specs.Domain.{parabola-of, centred-of, hard-arguments, covering-of, part-covering, Accepted}
 use Rattle.domain.specs.Scan.{next-point}
-use Rattle.domain.specs.Phases.{marks}
-use Rattle.domain.specs.Answer.{domain-answer, marks-after, list-after, domain-refusal, domain-first, domain-count, scan-answer, scan-list-after, scan-refusal, scan-count}
+use Rattle.domain.specs.Answer.{domain-answer, marks-of, marks-after, list-after, domain-refusal, domain-first, domain-count, scan-answer, scan-list-after, scan-refusal, scan-count}
 use Rattle.domain.specs.declared.Domain.{Domain}
 use Rattle.domain.specs.declared.DomainAnswer.{DomainAnswer}
 use Rattle.domain.specs.declared.DomainAnswer.the-variants as domain-variants
@@ -44,12 +43,12 @@ pub record Parabola-correct (d : Domain) : Type 0 where
   pub window : parabola-of d .window ≡ d .window
   pub value : (x : ℕ) → value-at (parabola-of d) x ≡ (pos (d .value) +ℤ pos (d .slope) *ℤ pos x +ℤ d .curve *ℤ pos (x * (x - 1) / 2)) modulo d .modulus
 
--- what hard means in the call's own numbers: below N, with a v below M and below w that differs from c0 + c1·x + s·x(x-1)/2 by k·M for an
--- integer k. All is doubled, so that nothing is halved
+-- what hard means in the call's own numbers: below N, with a v below M that differs from c0 + c1·x + s·x(x-1)/2 by k·M for an integer k, and that is less
+-- than w from a multiple of M: v < w or M - v < w. All is doubled, so that nothing is halved
 abbrev pub Hard-in-numbers : Domain → (x : ℕ) → Type 0
 Hard-in-numbers d x =
     (x < d .count)
-    × ((v : ℕ) × (v < d .modulus) × (v < d .window)
+    × ((v : ℕ) × (v < d .modulus) × ((v < d .window) ⊎ (d .modulus - v < d .window))
     × ((k : ℤ) × (pos (2 * v) ≡ pos (2 * (d .value + d .slope * x)) +ℤ d .curve *ℤ pos (x * (x - 1)) +ℤ k *ℤ pos (2 * d .modulus))))
 
 -- the same of a segment: below N, with an r below M and below w that differs from b - a·x by a multiple of M. With b below M that multiple is not negative
@@ -58,17 +57,17 @@ Hard-in-segment M a b N w x = (x < N) × ((r : ℕ) × (r < M) × (r < w) × ((k
 
 -- ---- the covering segments
 
--- the covering segments of a domain and of its parts, in the call's own numbers: the part i begins at h = i·(N/8), and has value V(h), slope (c1 + s·h) mod M
--- and N/8 arguments. The searches accept them
+-- the covering segments of a domain and of its parts, on both sides and in the call's own numbers: the part i begins at h = i·(N/8), and has value V(h), slope
+-- (c1 + s·h) mod M and N/8 arguments. The searches accept them
 pub record Coverings-correct (d : Domain) : Type 0 where
-  pub whole : Covers-by (d .modulus) (d .value) (d .slope) (d .curve) (d .count) (d .window) (covering (parabola-of d))
-  pub whole-accepted : segment.Accepted (covering (parabola-of d))
-  pub whole-covers : Covering-correct (parabola-of d)
+  pub whole : Covers-both-by (d .modulus) (d .value) (d .slope) (d .curve) (d .count) (d .window) (covering-of d)
+  pub whole-accepted : segment.Accepted (covering-of d)
+  pub whole-covers : Covering-both-correct (parabola-of d) (covering-of d)
   pub of-part : (i h : ℕ) → i < 8 → h ≡ i * (d .count / 8)
-      → Covers-by (d .modulus) ((pos (d .value) +ℤ pos (d .slope) *ℤ pos h +ℤ d .curve *ℤ pos (h * (h - 1) / 2)) modulo d .modulus)
-      ((pos (d .slope) +ℤ d .curve *ℤ pos h) modulo d .modulus) (d .curve) (d .count / 8) (d .window) (covering (part (parabola-of d) i))
-  pub part-accepted : (i : ℕ) → i < 8 → segment.Accepted (covering (part (parabola-of d) i))
-  pub part-covers : (i : ℕ) → i < 8 → Covering-correct (part (parabola-of d) i)
+      → Covers-both-by (d .modulus) ((pos (d .value) +ℤ pos (d .slope) *ℤ pos h +ℤ d .curve *ℤ pos (h * (h - 1) / 2)) modulo d .modulus)
+      ((pos (d .slope) +ℤ d .curve *ℤ pos h) modulo d .modulus) (d .curve) (d .count / 8) (d .window) (part-covering d i)
+  pub part-accepted : (i : ℕ) → i < 8 → segment.Accepted (part-covering d i)
+  pub part-covers : (i : ℕ) → i < 8 → Covering-both-correct (part (parabola-of d) i) (part-covering d i)
 
 -- ---- the phases
 
@@ -76,31 +75,34 @@ pub record Coverings-correct (d : Domain) : Type 0 where
 abbrev pub Cleared-by : Search → Segment → Type 0
 Cleared-by k s = segment-promise.Cleared k (s .unit) (s .step) (s .start) (s .count) (s .window)
 
+-- an argument is in the part i
+abbrev pub In-part : Domain → (i x : ℕ) → Type 0
+In-part d i x = (part-start (parabola-of d) i ≤ x) × (x < part-start (parabola-of d) i + part-count (parabola-of d) i)
+
 -- no argument of the part i is hard
-abbrev pub None-in-part : Parabola → (i : ℕ) → Type 0
-None-in-part p i = (x : ℕ) → part-start p i ≤ x → x < part-start p i + part-count p i → value-at p x < p .window → ⊥
+abbrev pub None-in-part : Domain → (i : ℕ) → Type 0
+None-in-part d i = (x : ℕ) → In-part d i x → Hard-in-numbers d x → ⊥
 
 -- phase 1 clears a domain exactly where the regular search clears its covering segment, that is, where the distance is at least that segment's
 -- window, and then no argument is hard; phase 2 clears a part so by the fine search of the part's covering segment
-pub record Phases-correct (p : Parabola) : Type 0 where
-  pub first-cleared : (verdict regular (covering p) ≡ Clear) ↔ Cleared-by regular (covering p)
-  pub first-distance : (verdict regular (covering p) ≡ Clear) ↔ (covering p .window ≤ distance regular (covering p))
-  pub first-none : verdict regular (covering p) ≡ Clear → (x : ℕ) → Hard p x → ⊥
-  pub part-cleared : (i : ℕ) → (verdict fine (covering (part p i)) ≡ Clear) ↔ Cleared-by fine (covering (part p i))
-  pub part-distance : (i : ℕ) → (verdict fine (covering (part p i)) ≡ Clear) ↔ (covering (part p i) .window ≤ distance fine (covering (part p i)))
-  pub part-none : (i : ℕ) → verdict fine (covering (part p i)) ≡ Clear → None-in-part p i
+pub record Phases-correct (d : Domain) : Type 0 where
+  pub first-cleared : (verdict regular (covering-of d) ≡ Clear) ↔ Cleared-by regular (covering-of d)
+  pub first-distance : (verdict regular (covering-of d) ≡ Clear) ↔ (covering-of d .window ≤ distance regular (covering-of d))
+  pub first-none : verdict regular (covering-of d) ≡ Clear → (x : ℕ) → Hard-in-numbers d x → ⊥
+  pub part-cleared : (i : ℕ) → (verdict fine (part-covering d i) ≡ Clear) ↔ Cleared-by fine (part-covering d i)
+  pub part-distance : (i : ℕ) → (verdict fine (part-covering d i) ≡ Clear) ↔ (part-covering d i .window ≤ distance fine (part-covering d i))
+  pub part-none : (i : ℕ) → verdict fine (part-covering d i) ≡ Clear → None-in-part d i
 
 -- the eight marks: all 0 where phase 1 clears the domain; else 1 where the part is clear, and then no argument of it is hard, or 2 where it is
 -- possible: every hard argument is in a part marked 2
-pub record Marks-correct (p : Parabola) (first : Verdict) (marks : List ℕ) : Type 0 where
+pub record Marks-correct (d : Domain) (first : Verdict) (marks : List ℕ) : Type 0 where
   pub eight : length marks ≡ 8
   pub at-most-2 : (i : ℕ) → getD marks i 0 ≤ 2
   pub not-looked-at : first ≡ Clear → (i : ℕ) → i < 8 → getD marks i 0 ≡ 0
-  pub clear : first ≡ Possible → (i : ℕ) → i < 8 → (getD marks i 0 ≡ 1) ↔ (verdict fine (covering (part p i)) ≡ Clear)
-  pub possible : first ≡ Possible → (i : ℕ) → i < 8 → (getD marks i 0 ≡ 2) ↔ (verdict fine (covering (part p i)) ≡ Possible)
-  pub none-hard : (i : ℕ) → i < 8 → getD marks i 0 ≡ 1 → None-in-part p i
-  pub hard-in-2 : first ≡ Possible → (i : ℕ) → i < 8 → (x : ℕ) → part-start p i ≤ x → x < part-start p i + part-count p i → value-at p x < p .window
-      → getD marks i 0 ≡ 2
+  pub clear : first ≡ Possible → (i : ℕ) → i < 8 → (getD marks i 0 ≡ 1) ↔ (verdict fine (part-covering d i) ≡ Clear)
+  pub possible : first ≡ Possible → (i : ℕ) → i < 8 → (getD marks i 0 ≡ 2) ↔ (verdict fine (part-covering d i) ≡ Possible)
+  pub none-hard : (i : ℕ) → i < 8 → getD marks i 0 ≡ 1 → None-in-part d i
+  pub hard-in-2 : first ≡ Possible → (i : ℕ) → i < 8 → (x : ℕ) → In-part d i x → Hard-in-numbers d x → getD marks i 0 ≡ 2
 
 -- ---- refusals
 
@@ -113,7 +115,7 @@ Asked d places =
     ∷ condition 4 ((8 ≤ d .count) × ((d .count ≤ 1048576) × (d .count % 8 ≡ 0)))
     ∷ condition 5 (d .window ≤ d .modulus)
     ∷ condition 6 (natAbs (d .curve) ≤ 1048576)
-    ∷ condition 7 (length (hard-list (parabola-of d)) ≤ places)
+    ∷ condition 7 (length (hard-arguments d) ≤ places)
     ∷ []
 
 -- a number refuses a domain: its condition is the first that does not hold
@@ -143,12 +145,12 @@ pub record Domain-correct (d : Domain) (old-marks old : List ℕ) (answer : Doma
   pub unchanged : (n : ℕ) → answer ≡ domain-variants.Refused n → (new-marks ≡ old-marks) × (new ≡ old)
   -- otherwise it is accepted, and there are places enough
   pub searched : (v : Verdict) (n : ℕ) → (answer ≡ domain-variants.Searched v n)
-      ↔ (Accepted d × (length (hard-list (parabola-of d)) ≤ length old) × (v ≡ verdict regular (covering (parabola-of d))) × (n ≡ length (hard-list (parabola-of d))))
-  pub marked : (v : Verdict) (n : ℕ) → answer ≡ domain-variants.Searched v n → Marks-correct (parabola-of d) v new-marks
+      ↔ (Accepted d × (length (hard-arguments d) ≤ length old) × (v ≡ verdict regular (covering-of d)) × (n ≡ length (hard-arguments d)))
+  pub marked : (v : Verdict) (n : ℕ) → answer ≡ domain-variants.Searched v n → Marks-correct d v new-marks
   pub cleared : (n : ℕ) → answer ≡ domain-variants.Searched Clear n → (n ≡ 0) × (new ≡ old) × ((x : ℕ) → Hard-in-numbers d x → ⊥)
   pub written : (v : Verdict) (n : ℕ) → answer ≡ domain-variants.Searched v n
-      → (new-marks ≡ marks (parabola-of d)) × (new ≡ overwrite-front (hard-list (parabola-of d)) old)
-  pub buffer : (v : Verdict) (n : ℕ) → answer ≡ domain-variants.Searched v n → Buffer-correct (hard-list (parabola-of d)) old new
+      → (new-marks ≡ marks-of d) × (new ≡ overwrite-front (hard-arguments d) old)
+  pub buffer : (v : Verdict) (n : ℕ) → answer ≡ domain-variants.Searched v n → Buffer-correct (hard-arguments d) old new
   -- from the call's numbers to what then lies in the caller's list, and that it ascends strictly there
   pub hard : (v : Verdict) (n : ℕ) → answer ≡ domain-variants.Searched v n → Enumerates (Hard-in-numbers d) n (take n new)
   pub ascends : (v : Verdict) (n : ℕ) → answer ≡ domain-variants.Searched v n → (i j : ℕ) → i < j → j < n → getD new i 0 < getD new j 0
@@ -173,14 +175,21 @@ pub record Promised : Type 0 where
       ↔ ((2 ≤ d .modulus) × (d .modulus ≤ 2 ^ 62) × (d .slope < d .modulus) × (d .value < d .modulus) × (8 ≤ d .count) × (d .count ≤ 1048576)
       × (d .count % 8 ≡ 0) × (d .window ≤ d .modulus) × (natAbs (d .curve) ≤ 1048576))
   pub values : (d : Domain) → 0 < d .modulus → Values-correct (parabola-of d)
-  pub hard-lists : (d : Domain) → Accepted d → Enumerates (Hard (parabola-of d)) (count-if (is-hard (parabola-of d)) (d .count) 0) (hard-list (parabola-of d))
+  -- the parabola that the phases search has the values raised by w - 1, and its hard arguments are the near ones
+  pub centred : (d : Domain) → Accepted d → Centred-correct (parabola-of d)
+  pub hard-lists : (d : Domain) → Accepted d → Enumerates (Near (parabola-of d)) (count-if (is-hard (centred-of d)) (d .count) 0) (hard-arguments d)
+  -- for a window of 0 the phases search the parabola itself, and nothing is hard
+  pub without-window : (d : Domain) → Accepted d → d .window ≡ 0
+      → (centred-of d ≡ parabola-of d) × (hard-arguments d ≡ []) × ((x : ℕ) → Hard-in-numbers d x → ⊥)
   pub coverings : (d : Domain) → Accepted d → Coverings-correct d
+  -- the parts of a domain, and those of the parabola that the phases search, which are the same, centred
   pub parts : (d : Domain) → Accepted d → Parts-correct (parabola-of d)
+  pub centred-parts : (d : Domain) → Accepted d → Parts-correct (centred-of d)
   -- a scan goes from the value and the slope at x to those at x + 1
   pub differences : (p : Parabola) (x : ℕ) → 0 < p .unit
       → next-point (second-difference p) (p .unit) (record { value = value-at p x; slope = slope-at p x })
       ≡ record { value = value-at p (suc x); slope = slope-at p (suc x) }
-  pub phases : (d : Domain) → Accepted d → Phases-correct (parabola-of d)
+  pub phases : (d : Domain) → Accepted d → Phases-correct d
   pub domains : (d : Domain) (old-marks old : List ℕ)
       → Domain-correct d old-marks old (domain-answer d (length old)) (marks-after d (length old) old-marks) (list-after d old)
   pub scans : (M a b N w : ℕ) (old : List ℕ)

@@ -1,5 +1,6 @@
 // Scans of segments and the search of a domain, the parabola V(x) = (value + slope·x + curve·x(x-1)/2) mod modulus over the arguments x below
-// count: all arguments whose value is less than the window are listed, and a domain that is cleared has none.
+// count. A domain's argument is hard where V(x) is less than the window from a multiple of the modulus, on either side: all hard arguments are
+// listed, and a domain that is cleared has none. A segment's is hard where its residue is less than the window, on one side.
 ghost use mathlib.Core.Path.{_≡_};
 ghost use lib.ListN.{length};
 ghost use Rattle.expansion.specs.Reached.Search.{regular};
@@ -7,16 +8,19 @@ ghost use Rattle.segment.specs.Search.{verdict};
 ghost use Rattle.segment.specs.declared.Verdict.the-variants.{Possible};
 ghost use Rattle.parabola.specs.Parabola.{Divisible, covering};
 ghost use Rattle.arc.specs.Arc.{parabola};
-ghost use Rattle.domain.specs.Domain.{parabola-of, refusal};
+ghost use Rattle.domain.specs.Domain.{centred-of, refusal, Accepted};
 ghost use Rattle.domain.specs.Answer.{too-few, answer-with, marks-with, list-with, domain-answer, marks-after, list-after, scan-answer, scan-list-after};
 
 mod phases;
 mod scan;
 
 use arc::Arc;
+use numbers::min;
 use numbers::reduce;
+use numbers::saturating_sub;
 use phases::examine_parts;
 use phases::list_parts;
+use scan::add;
 use scan::count_hard;
 use scan::list_hard;
 
@@ -94,7 +98,7 @@ pub fn search_domain(domain: Domain, marks: &mut [u8; 8], list: &mut [u32]) -> D
     if number != 0 {
         return DomainAnswer::Refused(number);
     }
-    let arc = arc_of(domain);
+    let arc = centred(domain);
     match arc::regular_verdict(arc) {
         segment::Verdict::Clear => {
             *marks = [0u8; 8];
@@ -122,17 +126,20 @@ fn refuse(domain: Domain) -> u32
     })
 }
 
-// What the phases compute with.
-fn arc_of(domain: Domain) -> Arc
-    ensures { λ r. ⌜ parabola r ≡ parabola-of domain ⌝ }
+// What the phases search. Raised by w - 1, the values that lie less than w from a multiple of the modulus are those below 2w - 1: one test for both
+// sides. A window of 0 changes nothing.
+fn centred(domain: Domain) -> Arc
+    requires { ⌜ Accepted domain ⌝ }
+    ensures { λ r. ⌜ parabola r ≡ centred-of domain ⌝ }
 {
+    let raise = saturating_sub(domain.window, 1);
     Arc {
         modulus: domain.modulus,
-        value: domain.value,
+        value: add(domain.value, raise, domain.modulus),
         slope: domain.slope,
         curve: domain.curve,
         count: domain.count,
-        window: domain.window,
+        window: min(domain.modulus, domain.window + raise),
     }
 }
 

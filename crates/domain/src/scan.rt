@@ -34,7 +34,7 @@ fn next(point: Point, second: u64, modulus: u64) -> Point
 }
 
 // a + b modulo M.
-fn add(a: u64, b: u64, modulus: u64) -> u64
+pub(crate) fn add(a: u64, b: u64, modulus: u64) -> u64
     requires { ⌜ (a < modulus) × (b < modulus) × (modulus ≤ 2 ^ 62) ⌝ }
     ensures { λ r. ⌜ r ≡ (a + b) % modulus ⌝ }
 {

@@ -28,7 +28,7 @@ use Rattle.text.specs.Text.{decimal-within, decimal}
 use Rattle.text.specs.Reading.{starts, takes-digit, digits-from, number-from, field-at, unsigned, opposite, signed-from, signed-field-at}
 use Rattle.job.specs.Reading.{rest-from, reading}
 use Rattle.job.specs.Output.{verdict-name, argument-lines, refused, report, printed-for, printed, output-with, output-of}
-use Rattle.examples.specs.Settled.{Regular-shows, Fine-shows, Example-1, Example-6, Example-7, Example-8, Example-9, Example-10, Example-11, Settled}
+use Rattle.examples.specs.Settled.{Regular-shows, Fine-shows, Example-1, Example-6, Example-7, Example-8, Example-9, Example-10, Example-11, Both-sides, Settled}
 
 example-1 : Example-1
 unfolding decLe decLt Dec·and ℕ-discrete ranged first-failing rows-from expansion zero-padded refusal answer-with answer regular-from regular parts-from fine-from fine
@@ -102,11 +102,11 @@ example-9 =
     }
 
 example-10 : Example-10
-unfolding decLe decLt Dec·and ℕ-discrete ranged first-failing unless-refused rows-from expansion regular-from regular parts-from fine-from fine configurations-of reached-in reached residue least-from argument distance verdict-at filter-range tabulate overwrite-front _modulo_ triangle value-at slope-at parabola.is-hard parabola.hard-list spread covering-step start-over covering-start covering-window continued part-count part-start mark-of marks-by domain-number domain-answer-with domain-answer marks-after list-after decimal-within decimal starts takes-digit digits-from number-from field-at unsigned opposite signed-from signed-field-at rest-from reading verdict-name argument-lines refused report printed-for printed output-with output-of
-example-10 = record { prints = refl; read = refl; answered = refl; marks = λ old. refl; left = λ x y. refl }
+unfolding decLe decLt Dec·and ℕ-discrete ranged first-failing unless-refused rows-from expansion regular-from regular parts-from fine-from fine configurations-of reached-in reached residue least-from argument distance verdict-at filter-range tabulate overwrite-front _modulo_ triangle value-at slope-at parabola.is-hard parabola.hard-list parabola.centred spread covering-step start-over covering-start covering-window continued part-count part-start mark-of marks-by domain-number domain-answer-with domain-answer marks-after list-after decimal-within decimal starts takes-digit digits-from number-from field-at unsigned opposite signed-from signed-field-at rest-from reading verdict-name argument-lines refused report printed-for printed output-with output-of
+example-10 = record { prints = refl; read = refl; answered = refl; marks = λ old. refl; left = λ x y z. refl; covered = refl }
 
 example-11 : Example-11
-unfolding decLe decLt Dec·and ℕ-discrete ranged first-failing unless-refused rows-from expansion regular-from regular parts-from fine-from fine configurations-of reached-in reached residue least-from argument distance verdict-at filter-range tabulate overwrite-front _modulo_ triangle value-at slope-at parabola.is-hard parabola.hard-list spread covering-step start-over covering-start covering-window continued part-count part-start mark-of marks-by domain-number domain-answer-with domain-answer marks-after list-after
+unfolding decLe decLt Dec·and ℕ-discrete ranged first-failing unless-refused rows-from expansion regular-from regular parts-from fine-from fine configurations-of reached-in reached residue least-from argument distance verdict-at filter-range tabulate overwrite-front _modulo_ triangle value-at slope-at parabola.is-hard parabola.hard-list parabola.centred spread covering-step start-over covering-start covering-window continued part-count part-start mark-of marks-by domain-number domain-answer-with domain-answer marks-after list-after
 example-11 =
     record {
       rising = refl;
@@ -115,6 +115,20 @@ example-11 =
       falling = refl;
       falling-marks = λ old. refl;
       falling-left = λ x y. refl;
+    }
+
+both-sides : Both-sides
+unfolding decLe decLt Dec·and ℕ-discrete ranged first-failing unless-refused rows-from expansion regular-from regular parts-from fine-from fine configurations-of reached-in reached residue least-from argument distance verdict-at filter-range tabulate overwrite-front _modulo_ triangle value-at slope-at parabola.is-hard parabola.hard-list parabola.centred spread covering-step start-over covering-start covering-window continued part-count part-start mark-of marks-by domain-number domain-answer-with domain-answer marks-after list-after
+both-sides =
+    record {
+      two = refl;
+      two-marks = λ old. refl;
+      two-left = λ x y. refl;
+      six = refl;
+      six-left = refl;
+      half = refl;
+      more-than-half = refl;
+      more-than-half-left = refl;
     }
 
 pub settled : Settled
@@ -132,4 +146,5 @@ settled =
       p9 = example-9;
       p10 = example-10;
       p11 = example-11;
+      both-sides = both-sides;
     }

@@ -1,4 +1,4 @@
--- Document 01's settled examples marked P, as one statement with a field for each. Assumes nothing: these are statements.
+-- Document 01's settled examples marked P, and those of document 02's requests, as one statement with a field for each. Assumes nothing: these are statements.
 use mathlib.Core.Path.{_≡_}
 use mathlib.Core.List.{List, [], _∷_}
 use Prim.Native.Nat.{ℕ, _≤_, _<_}
@@ -12,6 +12,7 @@ use Rattle.segment.specs.Answer.{regular-answer, fine-answer}
 use Rattle.segment.specs.declared.Verdict.the-variants.{Clear, Possible}
 use Rattle.segment.specs.declared.RegularAnswer.the-variants as regular-variants
 use Rattle.segment.specs.declared.FineAnswer.the-variants as fine-variants
+use Rattle.domain.specs.Domain.{covering-of}
 use Rattle.domain.specs.Answer.{scan-answer, scan-list-after, domain-answer, marks-after, list-after}
 use Rattle.domain.specs.declared.ScanAnswer.the-variants as scan-variants
 use Rattle.domain.specs.declared.Domain.{Domain}
@@ -119,15 +120,16 @@ pub record Example-9 : Type 0 where
 abbrev pub J : Domain
 J = record { modulus = 45; value = 44; slope = 31; curve = pos 0; count = 16; window = 3 }
 
--- job J, bytes in and bytes out
+-- job J, bytes in and bytes out, by 02's request 2.1, and the segment that covers it
 pub record Example-10 : Type 0 where
   pub prints : output-of (bytes "modulus=45\nvalue=44\nslope=31\ncurve=0\ncount=16\nwindow=3\n")
-      ≡ bytes "first=possible\nparts=12111111\nlisted=1\nargument=3\n"
+      ≡ bytes "first=possible\nparts=22111111\nlisted=2\nargument=0\nargument=3\n"
   pub read : reading (bytes "modulus=45\nvalue=44\nslope=31\ncurve=0\ncount=16\nwindow=3\n")
       ≡ Read J
-  pub answered : domain-answer J 4096 ≡ domain-variants.Searched Possible 1
-  pub marks : (old : List ℕ) → marks-after J 4096 old ≡ 1 ∷ 2 ∷ 1 ∷ 1 ∷ 1 ∷ 1 ∷ 1 ∷ 1 ∷ []
-  pub left : (x y : ℕ) → list-after J (x ∷ y ∷ []) ≡ 3 ∷ y ∷ []
+  pub answered : domain-answer J 4096 ≡ domain-variants.Searched Possible 2
+  pub marks : (old : List ℕ) → marks-after J 4096 old ≡ 2 ∷ 2 ∷ 1 ∷ 1 ∷ 1 ∷ 1 ∷ 1 ∷ 1 ∷ []
+  pub left : (x y z : ℕ) → list-after J (x ∷ y ∷ z ∷ []) ≡ 0 ∷ 3 ∷ z ∷ []
+  pub covered : covering-of J ≡ segment 45 14 1 16 5
 
 -- the domain M 45, c0 0, c1 0, N 8, w 1 with a curve
 abbrev pub bent : (s : ℤ) → Domain
@@ -142,6 +144,24 @@ pub record Example-11 : Type 0 where
   pub falling-marks : (old : List ℕ) → marks-after (bent (negsuc 0)) 2 old ≡ 2 ∷ 2 ∷ 1 ∷ 1 ∷ 1 ∷ 1 ∷ 1 ∷ 1 ∷ []
   pub falling-left : (x y : ℕ) → list-after (bent (negsuc 0)) (x ∷ y ∷ []) ≡ 0 ∷ 1 ∷ []
 
+-- both sides of a breakpoint, in a domain with one argument a part. The line 3 + 3x modulo 10: a window of 2 lists 2 and 6, whose values are 9 and 1; a window
+-- of 6, half the modulus and more, lists all. The constant 5 modulo 11: its nearest multiple is 5 away, so that a window of 5 is cleared and one of 6 lists all
+abbrev pub line-of-10 : (window : ℕ) → Domain
+line-of-10 w = record { modulus = 10; value = 3; slope = 3; curve = pos 0; count = 8; window = w }
+
+abbrev pub constant-of-11 : (window : ℕ) → Domain
+constant-of-11 w = record { modulus = 11; value = 5; slope = 0; curve = pos 0; count = 8; window = w }
+
+pub record Both-sides : Type 0 where
+  pub two : domain-answer (line-of-10 2) 2 ≡ domain-variants.Searched Possible 2
+  pub two-marks : (old : List ℕ) → marks-after (line-of-10 2) 2 old ≡ 1 ∷ 1 ∷ 2 ∷ 1 ∷ 1 ∷ 1 ∷ 2 ∷ 1 ∷ []
+  pub two-left : (x y : ℕ) → list-after (line-of-10 2) (x ∷ y ∷ []) ≡ 2 ∷ 6 ∷ []
+  pub six : domain-answer (line-of-10 6) 8 ≡ domain-variants.Searched Possible 8
+  pub six-left : list-after (line-of-10 6) (replicate 8 0) ≡ 0 ∷ 1 ∷ 2 ∷ 3 ∷ 4 ∷ 5 ∷ 6 ∷ 7 ∷ []
+  pub half : domain-answer (constant-of-11 5) 0 ≡ domain-variants.Searched Clear 0
+  pub more-than-half : domain-answer (constant-of-11 6) 8 ≡ domain-variants.Searched Possible 8
+  pub more-than-half-left : list-after (constant-of-11 6) (replicate 8 0) ≡ 0 ∷ 1 ∷ 2 ∷ 3 ∷ 4 ∷ 5 ∷ 6 ∷ 7 ∷ []
+
 -- all of them
 pub record Settled : Type 0 where
   pub p1 : Example-1
@@ -155,3 +175,4 @@ pub record Settled : Type 0 where
   pub p9 : Example-9
   pub p10 : Example-10
   pub p11 : Example-11
+  pub both-sides : Both-sides

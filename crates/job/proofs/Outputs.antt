@@ -12,10 +12,8 @@ use Rattle.numbers.proofs.Buffers.{front-taken, clip-front}
 use Rattle.numbers.proofs.Checklists.{refused-at-most}
 use Rattle.segment.specs.declared.Verdict.{Verdict}
 use Rattle.segment.specs.declared.Verdict.the-variants.{Clear, Possible}
-use Rattle.parabola.specs.Parabola.{hard-list}
-use Rattle.domain.specs.Domain.{parabola-of}
-use Rattle.domain.specs.Phases.{marks}
-use Rattle.domain.specs.Answer.{domain-answer, marks-after, list-after}
+use Rattle.domain.specs.Domain.{hard-arguments}
+use Rattle.domain.specs.Answer.{domain-answer, marks-of, marks-after, list-after}
 use Rattle.domain.specs.Promise.{Hard-in-numbers, Domain-correct, Marks-correct, Asked, Refused-for}
 use Rattle.domain.specs.declared.Domain.{Domain}
 use Rattle.domain.specs.declared.DomainAnswer.{DomainAnswer}
@@ -75,34 +73,34 @@ module _ (d : Domain) where
   number-small {n} e = refused-at-most 7 (Asked d places) (omega arith) (search-refuses n .0 e)
 
   module _ {first : Verdict} {listed : ℕ} (e : answer-of d ≡ Searched first listed) where
-    few : length (hard-list (parabola-of d)) ≤ places
+    few : length (hard-arguments d) ≤ places
     few = omega (arith, correct .searched first listed .0 e .1, length-replicate {A = ℕ} places 0)
 
-    pub listed-is : listed ≡ length (hard-list (parabola-of d))
+    pub listed-is : listed ≡ length (hard-arguments d)
     listed-is = correct .searched first listed .0 e .3
 
     -- the marks, and the hard arguments at the front of the list
-    pub marks-are : marks-after d places (replicate 8 0) ≡ marks (parabola-of d)
+    pub marks-are : marks-after d places (replicate 8 0) ≡ marks-of d
     marks-are = correct .written first listed e .0
 
     pub list-long : listed ≤ length (list-of d)
     list-long = let b = correct .buffer first listed e in omega (arith, b .room, b .places, listed-is)
 
-    pub hard-in-front : take listed (list-of d) ≡ hard-list (parabola-of d)
-    hard-in-front = ap₂ take listed-is (correct .written first listed e .1) ∙ front-taken (hard-list (parabola-of d)) (replicate places 0)
+    pub hard-in-front : take listed (list-of d) ≡ hard-arguments d
+    hard-in-front = ap₂ take listed-is (correct .written first listed e .1) ∙ front-taken (hard-arguments d) (replicate places 0)
 
-    pub hard-listed : Enumerates (Hard-in-numbers d) listed (hard-list (parabola-of d))
+    pub hard-listed : Enumerates (Hard-in-numbers d) listed (hard-arguments d)
     hard-listed = subst (Enumerates (Hard-in-numbers d) listed) hard-in-front (correct .hard first listed e)
 
-    pub marks-correct : Marks-correct (parabola-of d) first (marks (parabola-of d))
-    marks-correct = subst (Marks-correct (parabola-of d) first) marks-are (correct .marked first listed e)
+    pub marks-correct : Marks-correct d first (marks-of d)
+    marks-correct = subst (Marks-correct d first) marks-are (correct .marked first listed e)
 
-    pub marks-small : Small-marks (marks (parabola-of d))
+    pub marks-small : Small-marks (marks-of d)
     marks-small i = omega (arith, marks-correct .at-most-2 i)
 
-    report-fits : length (report first (marks (parabola-of d)) (hard-list (parabola-of d))) ≤ longest
+    report-fits : length (report first (marks-of d) (hard-arguments d)) ≤ longest
     report-fits =
-        report-short first (marks (parabola-of d)) (hard-list (parabola-of d)) (marks-correct .eight) few
+        report-short first (marks-of d) (hard-arguments d) (marks-correct .eight) few
         (λ x m. omega (arith, hard-listed .exactly x .0 m .0, correct .searched first listed .0 e .0 .in-range .count-high))
 
 -- ---- the output of a job
@@ -112,7 +110,7 @@ unfolding printed printed-for
 printed-refused d e = rw e
 
 pub printed-report : (d : Domain) {first : Verdict} {listed : ℕ} → answer-of d ≡ Searched first listed
-    → printed d ≡ report first (marks (parabola-of d)) (hard-list (parabola-of d))
+    → printed d ≡ report first (marks-of d) (hard-arguments d)
 unfolding printed printed-for
 printed-report d e = rw e
 

@@ -4,10 +4,8 @@ use Prim.Native.Nat.{ℕ, _<_}
 use lib.ListN.{length, getD}
 use Rattle.segment.specs.declared.Verdict.{Verdict}
 use Rattle.segment.specs.declared.Verdict.the-variants.{Clear, Possible}
-use Rattle.parabola.specs.Parabola.{hard-list}
-use Rattle.domain.specs.Domain.{parabola-of}
-use Rattle.domain.specs.Phases.{marks}
-use Rattle.domain.specs.Answer.{domain-answer}
+use Rattle.domain.specs.Domain.{hard-arguments}
+use Rattle.domain.specs.Answer.{domain-answer, marks-of}
 use Rattle.domain.specs.declared.Domain.{Domain}
 use Rattle.domain.specs.declared.DomainAnswer.{DomainAnswer}
 use Rattle.domain.specs.declared.DomainAnswer.the-variants.{Refused, Searched}
@@ -60,7 +58,7 @@ report first marks arguments =
 -- what is printed of a domain that got this answer
 unfoldable pub printed-for : DomainAnswer → Domain → List ℕ
 printed-for (Refused n) d = refused n
-printed-for (Searched first listed) d = report first (marks (parabola-of d)) (hard-list (parabola-of d))
+printed-for (Searched first listed) d = report first (marks-of d) (hard-arguments d)
 
 unfoldable pub printed : Domain → List ℕ
 printed d = printed-for (answer-of d) d

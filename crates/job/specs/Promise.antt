@@ -10,10 +10,8 @@ use Rattle.numbers.specs.Lists.{overwrite-front}
 use Rattle.numbers.specs.Promise.{Enumerates, Buffer-correct}
 use Rattle.segment.specs.declared.Verdict.{Verdict}
 use Rattle.segment.specs.declared.Verdict.the-variants.{Clear, Possible}
-use Rattle.parabola.specs.Parabola.{hard-list}
-use Rattle.domain.specs.Domain.{parabola-of}
-use Rattle.domain.specs.Phases.{marks}
-use Rattle.domain.specs.Answer.{domain-answer}
+use Rattle.domain.specs.Domain.{hard-arguments}
+use Rattle.domain.specs.Answer.{domain-answer, marks-of}
 use Rattle.domain.specs.Promise.{Hard-in-numbers, Refused-for, Marks-correct}
 use Rattle.domain.specs.declared.Domain.{Domain}
 use Rattle.domain.specs.declared.DomainAnswer.the-variants.{Refused, Searched}
@@ -68,10 +66,10 @@ pub record Output-correct : Type 0 where
   -- a job that is not refused prints phase 1's verdict, the marks, how many arguments are listed, and a line for each hard argument: these are
   -- exactly the hard ones in the job's own numbers, each once and ascending
   pub job-reported : (d : Domain) (first : Verdict) (listed : ℕ) → In-range d → answer-of d ≡ Searched first listed
-      → output-of (rendering d) ≡ report first (marks (parabola-of d)) (hard-list (parabola-of d))
-  pub marked : (d : Domain) (first : Verdict) (listed : ℕ) → answer-of d ≡ Searched first listed → Marks-correct (parabola-of d) first (marks (parabola-of d))
+      → output-of (rendering d) ≡ report first (marks-of d) (hard-arguments d)
+  pub marked : (d : Domain) (first : Verdict) (listed : ℕ) → answer-of d ≡ Searched first listed → Marks-correct d first (marks-of d)
   pub hard : (d : Domain) (first : Verdict) (listed : ℕ) → answer-of d ≡ Searched first listed
-      → Enumerates (Hard-in-numbers d) listed (hard-list (parabola-of d))
+      → Enumerates (Hard-in-numbers d) listed (hard-arguments d)
   -- what is printed fits a buffer of 69,674 bytes; over the front of one it leaves every place after it as it was
   pub fits : (t : List ℕ) → length (output-of t) ≤ 69674
   pub buffer : (t old : List ℕ) → length old ≡ 69674 → Buffer-correct (output-of t) old (overwrite-front (output-of t) old)

@@ -1,7 +1,7 @@
 // Mathematics that the other layers share: remainders of numbers and of integers, divisors, Fibonacci numbers, lists, the theory of a partly
-// written buffer, refusals as checklists; and three calls on numbers and integers.
+// written buffer, refusals as checklists; and five calls on numbers and integers.
 ghost use mathlib.Core.Path.{_≡_};
-ghost use Prim.Native.Nat.{_%_};
+ghost use Prim.Native.Nat.{_-_, _%_, min};
 ghost use lib.IntN.{natAbs};
 ghost use Rattle.numbers.specs.Integers.{_modulo_};
 
@@ -40,4 +40,24 @@ pub fn magnitude(number: i64) -> u64
         return (-1 - number) as u64 + 1;
     }
     number as u64
+}
+
+// The smaller of two numbers.
+pub fn min(a: u64, b: u64) -> u64
+    ensures { λ r. ⌜ r ≡ min a b ⌝ }
+{
+    if a < b {
+        return a;
+    }
+    b
+}
+
+// a - b, or 0 where b is larger.
+pub fn saturating_sub(a: u64, b: u64) -> u64
+    ensures { λ r. ⌜ r ≡ a - b ⌝ }
+{
+    if a < b {
+        return 0;
+    }
+    a - b
 }

@@ -1,6 +1,7 @@
 mod Values
 mod Bounds
 mod Coverings
+mod Centred
 mod Parts
 mod Lines
 pub mod Laws

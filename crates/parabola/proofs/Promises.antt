@@ -8,6 +8,7 @@ use Rattle.parabola.specs.Parabola.{Parabola, triangle, value-at, slope-
 use Rattle.parabola.specs.Promise.{Values-correct, Promised}
 use Rattle.parabola.proofs.Values.{triangle-twice, value-below, slope-below, second-below, value-first, slope-first, value-next, slope-next, value-continues, slope-continues}
 use Rattle.parabola.proofs.Coverings.{covering-correct}
+use Rattle.parabola.proofs.Centred.{centred-correct}
 use Rattle.parabola.proofs.Parts.{parts-correct}
 use Rattle.parabola.proofs.Lines.{line-correct}
 
@@ -41,6 +42,7 @@ promised =
       values = values-correct;
       hard-lists = hard-lists;
       coverings = covering-correct;
+      centred-correct = centred-correct;
       parts = parts-correct;
       lines = line-correct;
     }

@@ -1,8 +1,10 @@
 -- A parabola V(x) = (c0 + c1·x + s·x(x-1)/2) mod M over the arguments x below N, with a window w, in plain numbers (document 01: a domain's
--- values): which of its arguments are hard, the segment that covers it, and its parts. Assumes nothing: these are definitions.
+-- values): which of its arguments are hard, which are near a multiple of M on either side (document 02, 2.1), the segment that covers it, and its
+-- parts. Assumes nothing: these are definitions.
 use mathlib.Core.Path.{_≡_}
 use mathlib.Core.Bool.{Bool}
 use mathlib.Core.List.{List}
+use mathlib.Core.Logic.{_⊎_}
 use Prim.Native.Nat.{ℕ, _+_, _-_, _*_, _/_, _%_, _≤_, _<_, min}
 use lib.Dec.{ltb}
 use lib.IntN.{ℤ, pos, negsuc, natAbs, _+ℤ_, _*ℤ_}
@@ -51,6 +53,25 @@ hard-list p = filter-range (is-hard p) (p .count) 0
 -- an argument is hard that is below the count and whose value is less than the window
 abbrev pub Hard : Parabola → (x : ℕ) → Type 0
 Hard p x = (x < p .count) × (value-at p x < p .window)
+
+-- ---- both sides of a breakpoint
+
+-- an argument is near that is below the count and whose distance to the nearest multiple of M is less than the window: V(x) < w or M - V(x) < w
+abbrev pub Near : Parabola → (x : ℕ) → Type 0
+Near p x = (x < p .count) × ((value-at p x < p .window) ⊎ (p .unit - value-at p x < p .window))
+
+-- the parabola raised by w - 1, modulo M, with the window 2w - 1, or M where that is less: its hard arguments are the near ones. For a window of 0 both
+-- differences are 0, and it is the parabola itself
+unfoldable pub centred : Parabola → Parabola
+centred p =
+    record {
+      unit = p .unit;
+      value = (p .value + (p .window - 1)) % p .unit;
+      slope = p .slope;
+      curve = p .curve;
+      count = p .count;
+      window = min (p .unit) (2 * p .window - 1);
+    }
 
 -- ---- the covering segment
 

@@ -2,6 +2,7 @@
 -- `Promised`, at the end, is all of it; proofs/Promises.antt proves it. Assumes nothing: these are statements.
 use mathlib.Core.Path.{_≡_}
 use mathlib.Core.List.{map}
+use mathlib.Core.Logic.{_↔_, _⊎_}
 use Prim.Native.Nat.{ℕ, suc, _+_, _-_, _*_, _/_, _%_, _≤_, _<_, min}
 use lib.IntN.{ℤ, pos, negsuc, negℤ, natAbs, _+ℤ_, _*ℤ_}
 use Rattle.numbers.specs.Integers.{_modulo_}
@@ -9,7 +10,7 @@ use Rattle.numbers.specs.Lists.{count-if, joined}
 use Rattle.numbers.specs.Promise.{Enumerates}
 use Rattle.geometry.specs.Segment.{Segment, residue}
 use Rattle.geometry.specs.Segment as segment
-use Rattle.parabola.specs.Parabola.{Parabola, triangle, value-at, slope-at, second-difference, is-hard, hard-list, Hard, spread, covering, continued, part-start, part-count, part, In-range, Divisible, line}
+use Rattle.parabola.specs.Parabola.{Parabola, triangle, value-at, slope-at, second-difference, is-hard, hard-list, Hard, Near, centred, spread, covering, continued, part-start, part-count, part, In-range, Divisible, line}
 
 -- ---- values
 
@@ -54,6 +55,44 @@ pub record Covering-correct (p : Parabola) : Type 0 where
   pub falling : (n : ℕ) → p .curve ≡ negsuc n → (x : ℕ) → residue (covering p) x ≡ (value-at p x + suc n * triangle x) % p .unit
   pub covers : (x : ℕ) → x < p .count → value-at p x < p .window → residue (covering p) x < covering p .window
 
+-- ---- both sides of a breakpoint
+
+-- a segment is the covering one of both sides by six numbers. For w of 1 or more the start gains w - 1, modulo M, and the window is the smaller of M and
+-- 2w - 1 + D; for w of 0 nothing changes
+pub record Covers-both-by (M c0 c1 : ℕ) (s : ℤ) (N w : ℕ) (segment : Segment) : Type 0 where
+  pub unit : segment .unit ≡ M
+  pub step : segment .step ≡ negℤ (pos c1) modulo M
+  pub start-rising : (n D : ℕ) → s ≡ pos n → 2 * D ≡ n * (N * (N - 1)) → 1 ≤ w → segment .start ≡ (c0 + D + (w - 1)) % M
+  pub start-falling : (n : ℕ) → s ≡ negsuc n → 1 ≤ w → segment .start ≡ (c0 + (w - 1)) % M
+  pub count : segment .count ≡ N
+  pub window : (D : ℕ) → 2 * D ≡ natAbs s * (N * (N - 1)) → 1 ≤ w → segment .window ≡ min M (2 * w - 1 + D)
+  pub unchanged : w ≡ 0 → Covers-by M c0 c1 s N w segment
+
+-- a segment covers both sides of a parabola: it has those numbers; modulo M it lies above the values raised by w - 1 by what the curve may still add, or by
+-- what it has taken; and wherever a value below N is less than w from a multiple of M, the residue is less than the segment's window
+pub record Covering-both-correct (p : Parabola) (segment : Segment) : Type 0 where
+  pub numbers : Covers-both-by (p .unit) (p .value) (p .slope) (p .curve) (p .count) (p .window) segment
+  pub rising : (n : ℕ) → p .curve ≡ pos n → (x : ℕ) → x ≤ p .count
+      → residue segment x ≡ (value-at p x + (p .window - 1) + (spread p - n * triangle x)) % p .unit
+  pub falling : (n : ℕ) → p .curve ≡ negsuc n → (x : ℕ)
+      → residue segment x ≡ (value-at p x + (p .window - 1) + suc n * triangle x) % p .unit
+  pub covers : (x : ℕ) → x < p .count → (value-at p x < p .window) ⊎ (p .unit - value-at p x < p .window) → residue segment x < segment .window
+
+-- the centred parabola is the same but for the value, which gains w - 1, modulo M, and the window, the smaller of M and 2w - 1. So do all values, and its
+-- hard arguments are those near a multiple of M. Its covering segment covers both sides, and its parts are the parts, centred. For w of 0 it is the same
+-- parabola
+pub record Centred-correct (p : Parabola) : Type 0 where
+  pub start : centred p .value ≡ (p .value + (p .window - 1)) % p .unit
+  pub window : centred p .window ≡ min (p .unit) (2 * p .window - 1)
+  pub same : (centred p .unit ≡ p .unit) × (centred p .slope ≡ p .slope) × (centred p .curve ≡ p .curve) × (centred p .count ≡ p .count)
+  pub in-range : In-range (centred p)
+  pub value : (x : ℕ) → value-at (centred p) x ≡ (value-at p x + (p .window - 1)) % p .unit
+  pub slope : (x : ℕ) → slope-at (centred p) x ≡ slope-at p x
+  pub hard : (x : ℕ) → Hard (centred p) x ↔ Near p x
+  pub covering-both : Covering-both-correct p (covering (centred p))
+  pub parts : (i : ℕ) → part (centred p) i ≡ centred (part p i)
+  pub unchanged : p .window ≡ 0 → centred p ≡ p
+
 -- ---- the parts
 
 -- parts cover the arguments from 0 to N - 1 once each, in order; a part's value at y is the parabola's at the part's beginning and y more
@@ -86,5 +125,6 @@ pub record Promised : Type 0 where
   pub values : (p : Parabola) → 0 < p .unit → Values-correct p
   pub hard-lists : (p : Parabola) → p .count ≤ 1048576 → Enumerates (Hard p) (count-if (is-hard p) (p .count) 0) (hard-list p)
   pub coverings : (p : Parabola) → 0 < p .unit → p .slope < p .unit → Covering-correct p
+  pub centred-correct : (p : Parabola) → In-range p → Centred-correct p
   pub parts : (p : Parabola) → Divisible p → Parts-correct p
   pub lines : (s : Segment) → s .step < s .unit → Line-correct s

@@ -8,8 +8,10 @@
 // a division: so a row divides whether or not it needs to, and selects what it needs of the results.
 ghost use mathlib.Core.Path.{_≡_};
 ghost use mathlib.Core.Bool.{true, false};
-ghost use Prim.Native.Nat.{_-_, _<_, min};
+ghost use Prim.Native.Nat.{_<_};
 ghost use Rattle.segment.specs.State.{first-state, quotient, all-cuts, last-cuts, cuts-of, Cutting, nearest, advanced-left, highest-cut, advanced-right, row-of, in-next-row, finished, ends, Steppable, Unreached, regular-next, fine-next};
+use numbers::min;
+use numbers::saturating_sub;
 
 // longs gaps of length long and shorts gaps of length short, after part cuts of the row index; the argument of least residue below the count
 // longs + shorts, and its residue, the distance. Done: this is the configuration that the search reaches.
@@ -272,23 +274,4 @@ fn finish(state: State, cuts: Cuts, point: Nearest, whole: bool) -> State
         index: state.index + whole as u32,
         done: true,
     }
-}
-
-fn min(a: u64, b: u64) -> u64
-    ensures { λ r. ⌜ r ≡ min a b ⌝ }
-{
-    if a < b {
-        return a;
-    }
-    b
-}
-
-// a - b, or 0 where b is larger.
-fn saturating_sub(a: u64, b: u64) -> u64
-    ensures { λ r. ⌜ r ≡ a - b ⌝ }
-{
-    if a < b {
-        return 0;
-    }
-    a - b
 }

@@ -21,7 +21,7 @@ search-parts-requires c κs =
     let at-verdict = at-told .before .before in
     let at-arc = at-verdict .before in
     let s = at-arc .before .before .before .before in
-    searched-requires (s .args .domain) (s .args .marks .now) (s .args .list .now) (taken-on (at-arc .before)) (at-arc .arc-of .ensures)
+    searched-requires (s .args .domain) (s .args .marks .now) (s .args .list .now) (taken-on (at-arc .before)) (at-arc .centred .ensures)
     (sym (at-verdict .regular-verdict .ensures) ∙ at-told .enum-told2 .given .1)
 
 cleared : tie.Need-returns-2
@@ -31,7 +31,7 @@ cleared c =
     let at-arc = at-verdict .before in
     let s = at-arc .before .before .before .before in
     domain-cleared (s .args .domain) (s .args .marks .now) (s .args .list .now) (taken-on (at-arc .before))
-    (at-arc .arc-of .ensures) (sym (at-verdict .regular-verdict .ensures) ∙ at-told .enum-told .given .1)
+    (at-arc .centred .ensures) (sym (at-verdict .regular-verdict .ensures) ∙ at-told .enum-told .given .1)
 
 searched : tie.Need-returns-3
 searched c =
@@ -39,10 +39,10 @@ searched c =
     let at-arc = at-searched .before .before .before .before .before .before in
     let s = at-arc .before .before .before .before in
     domain-searched (s .args .domain) (s .args .marks .now) (s .args .list .now) (taken-on (at-arc .before))
-    (at-arc .arc-of .ensures) (at-searched .search-parts .ensures)
+    (at-arc .centred .ensures) (at-searched .search-parts .ensures)
 
 pub search-domain-spec : {M : Type 1} → statement M
 search-domain-spec =
     tie.close
-    (tie.spec (λ c κs. search needs) refused (λ c κs. search needs) (λ c κs. tt) (λ c. search needs) (λ c. search needs) search-parts-requires
+    (tie.spec (λ c κs. search needs) refused (λ c κs. taken-on c) (λ c κs. tt) (λ c. search needs) (λ c. search needs) search-parts-requires
     cleared (λ c. search needs) searched)
