@@ -38,25 +38,27 @@ impl Domain {
         self.curve.unsigned_abs() * (self.count * (self.count - 1) / 2)
     }
 
+    /// The covering segment of both sides.
     #[inline(always)]
     fn covering(&self) -> Segment {
-        let deviation = self.deviation();
+        let (deviation, raise) = (self.deviation(), self.window.saturating_sub(1));
+        let value = add_and_correct(self.value, raise, self.modulus);
         Segment {
             modulus: self.modulus,
             step: if self.slope == 0 { 0 } else { self.modulus - self.slope },
-            start: if self.curve < 0 { self.value } else { self.start(deviation) },
+            start: self.start(value, deviation * (self.curve >= 0) as u64),
             count: self.count,
-            window: self.modulus.min(self.window + deviation),
+            window: self.modulus.min(self.window + raise + deviation),
         }
     }
 
     /// Most deviations are below the modulus, and then there is nothing to divide.
     #[inline(always)]
-    fn start(&self, deviation: u64) -> u64 {
+    fn start(&self, value: u64, deviation: u64) -> u64 {
         if deviation < self.modulus {
-            add_and_correct(self.value, deviation, self.modulus)
+            add_and_correct(value, deviation, self.modulus)
         } else {
-            (self.value + deviation) % self.modulus
+            (value + deviation) % self.modulus
         }
     }
 
@@ -78,7 +80,7 @@ impl Domain {
         let (mut value, mut slope) = (self.value, self.slope);
         let curve = self.curve.rem_euclid(self.modulus as i64) as u64;
         for x in 0..self.count {
-            if value < self.window {
+            if value < self.window || self.modulus - value < self.window {
                 hard(x);
             }
             value = add_and_correct(value, slope, self.modulus);
@@ -109,7 +111,7 @@ fn compare_and_add(a: u64, b: u64, modulus: u64) -> u64 {
     }
 }
 
-/// The search of a domain as document 01 has it, plainly and unverified.
+/// The search of a domain as documents 01 and 02 have it, plainly and unverified.
 #[inline(never)]
 fn search(domain: &Domain, list: &mut [u32], marks: &mut Marks, searched: &mut Searched) -> u32 {
     let Domain { modulus, value, slope, curve, count, window } = *domain;
@@ -238,7 +240,7 @@ fn domains(number: usize) -> Vec<Domain> {
         .iter()
         .map(|&[modulus, slope, value]| {
             let domain = Domain { modulus, value, slope, curve: small(value), count: 1 << 15, window: 0 };
-            Domain { window: (modulus >> 28) - domain.deviation(), ..domain }
+            Domain { window: ((modulus >> 28) - domain.deviation()) / 2, ..domain }
         })
         .collect()
 }
@@ -265,7 +267,7 @@ fn mixed_domains(domains: &[Domain]) {
     });
 }
 
-/// Counts the hard arguments of a segment, or of a domain, by a loop over them all.
+/// Counts the hard arguments of a segment by a loop over them all.
 #[inline(never)]
 fn count_segment(segment: &Segment, add: impl Fn(u64, u64, u64) -> u64) -> u64 {
     let Segment { modulus, step, start, count, window } = *segment;
@@ -278,17 +280,34 @@ fn count_segment(segment: &Segment, add: impl Fn(u64, u64, u64) -> u64) -> u64 {
     hard
 }
 
-#[inline(never)]
-fn count_domain(domain: &Domain, add: impl Fn(u64, u64, u64) -> u64) -> u64 {
-    let Domain { modulus, value, slope, curve, count, window } = *domain;
+/// Counts the arguments of a domain at whose values a test holds, by a loop over them all.
+#[inline(always)]
+fn count_domain(domain: &Domain, add: impl Fn(u64, u64, u64) -> u64, holds: impl Fn(u64) -> bool) -> u64 {
+    let Domain { modulus, value, slope, curve, count, .. } = *domain;
     let (mut value, mut slope, mut hard) = (value, slope, 0);
     let curve = curve.rem_euclid(modulus as i64) as u64;
     for _ in 0..count {
-        hard += (value < window) as u64;
+        hard += holds(value) as u64;
         value = add(value, slope, modulus);
         slope = add(slope, curve, modulus);
     }
     hard
+}
+
+/// The hard arguments of a domain, by a test of each side.
+#[inline(never)]
+fn count_either_side(domain: &Domain, add: impl Fn(u64, u64, u64) -> u64) -> u64 {
+    let Domain { modulus, window, .. } = *domain;
+    count_domain(domain, add, |value| value < window || modulus - value < window)
+}
+
+/// The same by one test of values that are raised by w - 1.
+#[inline(never)]
+fn count_raised(domain: &Domain, add: impl Fn(u64, u64, u64) -> u64) -> u64 {
+    let raise = domain.window.saturating_sub(1);
+    let bound = domain.modulus.min(domain.window + raise);
+    let raised = Domain { value: add_and_correct(domain.value, raise, domain.modulus), ..*domain };
+    count_domain(&raised, add, |value| value < bound)
 }
 
 /// Scans of segments of which no argument is hard, so that none is listed: one pass.
@@ -326,11 +345,13 @@ fn domain_scans() {
         assert_eq!((proved(domain, &mut memory), memory.searched, memory.marks), (0, [0, 0], [2; 8]));
     }
     let name = "all parts scanned, per argument N=2^20";
-    measure([name, &format!("{name}, comparing first")], 1 << 20, || {
+    let names = [name, &format!("{name}, raised"), &format!("{name}, comparing first")];
+    measure(names, 1 << 20, || {
         let proved = nanoseconds(&domains, &mut memory, proved);
-        let plain = nanoseconds(&domains, &mut memory, |domain, _| count_domain(domain, add_and_correct));
-        let comparing_first = nanoseconds(&domains, &mut memory, |domain, _| count_domain(domain, compare_and_add));
-        (proved, [plain, comparing_first])
+        let plain = nanoseconds(&domains, &mut memory, |domain, _| count_either_side(domain, add_and_correct));
+        let raised = nanoseconds(&domains, &mut memory, |domain, _| count_raised(domain, add_and_correct));
+        let comparing_first = nanoseconds(&domains, &mut memory, |domain, _| count_either_side(domain, compare_and_add));
+        (proved, [plain, raised, comparing_first])
     });
 }
 

@@ -11,17 +11,17 @@ and the midpoints of two doubles, which are the breakpoints of all rounding mode
 
     c0 = F(0),    c1 = F(1) - F(0),    c2 = F(2) - 2·F(1) + F(0)
 
-the job's slope is M·c1 and its curve M·c2, both rounded; its value is M·c0, rounded, plus half the window. Value and
-slope are taken modulo M.
+the job's value is M·c0, its slope M·c1 and its curve M·c2, each rounded. Value and slope are taken modulo M.
 
 Error. By Newton's formula F(x) = c0 + c1·x + c2·x(x-1)/2 + F'''(z)·x(x-1)(x-2)/6 for some z between 0 and N-1, and
 0 < F''' = 2^(3e)·F < 2^(54+3e). Let rounding change M·c0, M·c1 and M·c2 by r0, r1 and r2, each at most 1/2. Then the
-job's polynomial, without the half window, differs from M·F(x) by at most
+job's polynomial differs from M·F(x) by at most
 
     err = r0 + r1·N + r2·N^2/2 + 2^(116+3e)·N^3/6  <=  1/2 + N/2 + N^2/4 + 2^(116+3e)·N^3/6.
 
-Half the window is eps·M + err, with err rounded up; the window is twice that and 1. So every double whose exponential
-is within eps half ulps of a breakpoint is listed, and every listed one is within eps + 2·err/M.
+The window is eps·M + err and 1, with err rounded up: an argument is hard where the polynomial is less than that from a
+multiple of M, on either side. So every double whose exponential is within eps half ulps of a breakpoint is listed, and
+every listed one is within eps + 2·err/M.
 
 Only whole numbers are computed with; floats hold the doubles themselves and the logarithms to print."""
 import math
@@ -75,8 +75,8 @@ def job(first, count, bits):
     r0, r1, r2 = (abs(c - (whole << POINT)) for c, whole in zip(exact, (value, slope, curve)))
     third = 1 << (POINT + 116 + 3 * e)
     err = r0 + r1 * count + r2 * count**2 // 2 + third * count**3 // 6
-    half = (MODULUS >> bits) + (err >> POINT) + 2  # 1 to round up, 1 for what the series is off
-    return MODULUS, (value + half) % MODULUS, slope % MODULUS, curve, count, 2 * half + 1
+    within = (MODULUS >> bits) + (err >> POINT) + 2  # 1 to round up, 1 for what the series is off
+    return MODULUS, value % MODULUS, slope % MODULUS, curve, count, within + 1
 
 
 def text(numbers):
@@ -86,7 +86,8 @@ def text(numbers):
 
 def check(name, first, numbers):
     modulus, value, slope, curve, count, window = numbers
-    hard = [x for x in range(count) if (value + slope * x + curve * (x * (x - 1) // 2)) % modulus < window]
+    values = ((value + slope * x + curve * (x * (x - 1) // 2)) % modulus for x in range(count))
+    hard = [x for x, v in enumerate(values) if v < window or modulus - v < window]
     print(f"{name}: {len(hard)} listed")
     m, e = split(first)
     for x in hard:

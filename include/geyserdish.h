@@ -9,7 +9,8 @@
  *
  * A domain has a modulus, a value, a slope, a curve (signed), a count and a window. Its value at x is
  * V(x) = (value + slope*x + curve*x(x-1)/2) mod modulus, always from 0 to modulus - 1. Its arguments are the x below count. An
- * argument x is hard when V(x) is less than the window.
+ * argument x is hard when V(x) is less than the window away from a multiple of the modulus, on either side: V(x) < window or
+ * modulus - V(x) < window.
  *
  * Each function but geyserdish_range returns 0, or the number of a refusal: the lowest one whose condition holds.
  *

@@ -1,4 +1,4 @@
-//! Scans of segments, searches of domains and ranges of lists against a reference written from document 01 alone, which lists by
+//! Scans of segments, searches of domains and ranges of lists against a reference written from documents 01 and 02 alone, which lists by
 //! going through the arguments and judges by counting residues: every small domain, random and extreme ones, refusals, the settled
 //! examples, with canaries around the caller's memory.
 
@@ -293,16 +293,17 @@ fn common_divisors() -> Result<Tally, String> {
     })
 }
 
-/// A value just hard or just not hard, 0 or the largest, at an argument at an end of the domain or of a part, or beside it.
+/// A value just hard or just not hard, above a multiple of the modulus or below one, at an argument at an end of the domain or of a part,
+/// or beside it.
 fn hard_at_the_ends() -> Result<Tally, String> {
     random_domains(5, 20_000, |random, i| {
         let (modulus, count) = (1 + random.sized(LARGEST - 1), random_count(random, 32));
         let domain = Domain { value: 0, ..somewhere(random, modulus, count) };
         let edge = (i % 9) as u64 * count / 8;
         let x = one_of(random, &[edge.max(1) - 1, edge, edge + 1]);
-        let last = domain.window.saturating_sub(1);
-        let wanted = one_of(random, &[0, last, domain.window % modulus, modulus - 1]);
-        let value = (wanted as i128 - domain.value_at(x) as i128).rem_euclid(modulus as i128);
+        let away = one_of(random, &[0, 1, domain.window.saturating_sub(1), domain.window]);
+        let wanted = one_of(random, &[away as i128, -(away as i128)]);
+        let value = (wanted - domain.value_at(x) as i128).rem_euclid(modulus as i128);
         Domain { value: value as u64, ..domain }
     })
 }
@@ -315,9 +316,9 @@ fn windows_where_a_verdict_changes() -> Result<Tally, String> {
         let of = if i % 3 == 0 { domain } else { one_of(random, &domain.parts()) };
         let covering = of.covering();
         let reached = if i % 3 == 0 { covering.regular_reached() } else { covering.fine_reached() };
-        let (least, _) = covering.least_below(reached.count as u64);
-        let clear = (least as i128 - of.deviation()).max(0) as u64;
-        Domain { window: (clear + i as u64 % 2).min(modulus), ..domain }
+        // A larger window clears no more; at the modulus nothing is clear.
+        let possible = reference::first(modulus + 1, |window| !Domain { window, ..of }.covering().clear(&reached));
+        Domain { window: possible.saturating_sub(i as u64 % 2), ..domain }
     })
 }
 
@@ -404,7 +405,7 @@ fn every_set_of_refusals() -> Result<Tally, String> {
             for (curve, count) in curves.iter().flat_map(|&s| counts.map(|n| (s, n))) {
                 for window in fields {
                     let domain = domain(modulus, value, slope, curve, count, window);
-                    let no_place = count > 0 && modulus > 0 && domain.value_at(0) < window;
+                    let no_place = count > 0 && modulus > 0 && domain.is_hard(0);
                     sets.insert((domain.conflicts(), no_place));
                     if count <= PLENTY as u64 {
                         sets.insert((domain.conflicts(), false));
@@ -435,15 +436,20 @@ fn parts_of_the_reference() -> Result<String, String> {
     Ok(format!("{values} values"))
 }
 
-/// Document 01's examples with a mark that concern domains: the marks and the list; all are possible.
+/// Documents 01's and 02's examples that concern domains: cleared or not, the marks and the list.
 fn settled_examples() -> Result<Tally, String> {
-    let examples: [(&str, Domain, [u8; 8], &[u32]); 3] = [
-        ("P10", domain(45, 44, 31, 0, 16, 3), [1, 2, 1, 1, 1, 1, 1, 1], &[3]),
-        ("P11", domain(45, 0, 0, 1, 8, 1), [2, 2, 1, 1, 1, 1, 1, 1], &[0, 1]),
-        ("P11", domain(45, 0, 0, -1, 8, 1), [2, 2, 1, 1, 1, 1, 1, 1], &[0, 1]),
+    let all_eight = [0, 1, 2, 3, 4, 5, 6, 7];
+    let examples: [(&str, Domain, u64, [u8; 8], &[u32]); 7] = [
+        ("P10", domain(45, 44, 31, 0, 16, 3), 0, [2, 2, 1, 1, 1, 1, 1, 1], &[0, 3]),
+        ("P11", domain(45, 0, 0, 1, 8, 1), 0, [2, 2, 1, 1, 1, 1, 1, 1], &[0, 1]),
+        ("P11", domain(45, 0, 0, -1, 8, 1), 0, [2, 2, 1, 1, 1, 1, 1, 1], &[0, 1]),
+        ("2.1", domain(10, 3, 3, 0, 8, 2), 0, [1, 1, 2, 1, 1, 1, 2, 1], &[2, 6]),
+        ("2.1", domain(10, 3, 3, 0, 8, 6), 0, [2; 8], &all_eight),
+        ("2.1", domain(11, 5, 0, 0, 8, 5), 1, [0; 8], &[]),
+        ("2.1", domain(11, 5, 0, 0, 8, 6), 0, [2; 8], &all_eight),
     ];
-    for (name, domain, marks, list) in examples {
-        let shown = Shown { marks: &marks, numbers: &[0, list.len() as u64] };
+    for (name, domain, cleared, marks, list) in examples {
+        let shown = Shown { marks: &marks, numbers: &[cleared, list.len() as u64] };
         let checked = check(&domain, list, &shown).and(check_places(&domain, 2 << 20, list, &shown));
         checked.map_err(|why| format!("{name}: {why}"))?;
     }

@@ -396,8 +396,8 @@ static void check_domain(const char *example, struct domain d, const struct answ
 }
 
 /*
- * What J and P11 leave open. With curve 0 the covering segment has the domain's values as its residues: it is clear for window 0 and
- * possible for window M. So it is for a part with one argument. With value 1 and slope 0 the values are 1, 1, 2, 4, 7, .. for curve 1
+ * What the documents' examples leave open. With curve 0 the covering segment has the domain's values, raised by w - 1, as its residues:
+ * it is clear for window 0 and possible for window M. So it is for a part with one argument. With value 1 and slope 0 the values are 1, 1, 2, 4, 7, .. for curve 1
  * and 1, 1, 0, 43, 40, .. for curve -1; with count 8 and window 1 the covering segment has step 0, window 1 + 28, and start 1 + 28 for
  * curve 1 but 1 for curve -1. With curve 1048576 or -1048576 its window is M.
  */
@@ -407,7 +407,12 @@ static void check_accepted_domains(void) {
         struct domain domain;
         struct answer answer;
     } accepted[] = {
-        {"J", {45, 44, 31, 0, 16, 3}, {{1, 2, 1, 1, 1, 1, 1, 1}, {0, 1}, {3}}},
+        {"J", {45, 44, 31, 0, 16, 3}, {{2, 2, 1, 1, 1, 1, 1, 1}, {0, 2}, {0, 3}}},
+        {"2.1, window 2", {10, 3, 3, 0, 8, 2}, {{1, 1, 2, 1, 1, 1, 2, 1}, {0, 2}, {2, 6}}},
+        {"2.1, window 5 of 11", {11, 5, 0, 0, 8, 5}, {{0, 0, 0, 0, 0, 0, 0, 0}, {1, 0}, {0}}},
+        {"2.1, window 6 of 11",
+         {11, 5, 0, 0, 8, 6},
+         {{2, 2, 2, 2, 2, 2, 2, 2}, {0, 8}, {0, 1, 2, 3, 4, 5, 6, 7}}},
         {"P11, curve 1", {45, 0, 0, 1, 8, 1}, {{2, 2, 1, 1, 1, 1, 1, 1}, {0, 2}, {0, 1}}},
         {"P11, curve -1", {45, 0, 0, -1, 8, 1}, {{2, 2, 1, 1, 1, 1, 1, 1}, {0, 2}, {0, 1}}},
         {"value 1, curve 1", {45, 1, 0, 1, 8, 1}, {{0, 0, 0, 0, 0, 0, 0, 0}, {1, 0}, {0}}},
@@ -417,9 +422,12 @@ static void check_accepted_domains(void) {
          {45, 44, 31, 0, 16, 45},
          {{2, 2, 2, 2, 2, 2, 2, 2}, {0, 16}, {0, 1, 2, 3, 4, 5, 6, 7, 8, 9, 10, 11, 12, 13, 14, 15}}},
         {"modulus 2", {2, 0, 0, 0, 8, 1}, {{2, 2, 2, 2, 2, 2, 2, 2}, {0, 8}, {0, 1, 2, 3, 4, 5, 6, 7}}},
-        {"modulus 2^62, window 2^62 - 1",
-         {LARGEST, LARGEST - 1, 0, 0, 8, LARGEST - 1},
+        {"modulus 2^62, window 2^61",
+         {LARGEST, LARGEST / 2, 0, 0, 8, LARGEST / 2},
          {{0, 0, 0, 0, 0, 0, 0, 0}, {1, 0}, {0}}},
+        {"modulus 2^62, window 2^61 + 1",
+         {LARGEST, LARGEST / 2, 0, 0, 8, LARGEST / 2 + 1},
+         {{2, 2, 2, 2, 2, 2, 2, 2}, {0, 8}, {0, 1, 2, 3, 4, 5, 6, 7}}},
         {"modulus 2^62, window 2^62",
          {LARGEST, LARGEST - 1, 0, 0, 8, LARGEST},
          {{2, 2, 2, 2, 2, 2, 2, 2}, {0, 8}, {0, 1, 2, 3, 4, 5, 6, 7}}},

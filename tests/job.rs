@@ -23,8 +23,8 @@ use texts::{J, LONGEST};
 
 const P11: Domain = Domain { modulus: 45, value: 0, slope: 0, curve: 1, count: 8, window: 1 };
 
-/// Hard from 2^20 - 4,096 on: as many arguments as there are places, of seven digits each.
-const LONGEST_LIST: Domain = Domain { modulus: MOST, value: 4096, slope: 1, curve: 0, count: MOST, window: 4096 };
+/// Every odd value once, -4,095 first at 2^20 - 4,096: from there on as many arguments are hard as there are places, of seven digits each.
+const LONGEST_LIST: Domain = Domain { modulus: 2 * MOST, value: 4097, slope: 2, curve: 0, count: MOST, window: 4096 };
 
 /// The bytes of the longest text and of the longest output.
 const LONGEST_TEXT: usize = 165;
@@ -172,20 +172,26 @@ fn all(program: &str, cases: &[Case]) -> Result<Tally, String> {
     Ok(Tally::of(cases))
 }
 
-/// Document 01's examples with a mark that concern domains, and some others: printed by hand, and by the reference.
+/// Documents 01's and 02's examples that concern domains, and some others: printed by hand, and by the reference.
 fn settled_examples() -> Vec<Case> {
     let j = "modulus=45\nvalue=44\nslope=31\ncurve=0\ncount=16\nwindow=3\n";
     let p11 = "first=possible\nparts=22111111\nlisted=2\nargument=0\nargument=1\n";
     let cleared = "first=cleared\nparts=00000000\nlisted=0\n";
     let scattered = "first=possible\nparts=22112212\nlisted=3\nargument=3\nargument=14\nargument=23\n";
+    let either_side = "first=possible\nparts=11211121\nlisted=2\nargument=2\nargument=6\n";
+    let all_eight = (0..8).map(|x| format!("argument={x}\n")).collect::<String>();
+    let all_eight = format!("first=possible\nparts=22222222\nlisted=8\n{all_eight}");
     let examples = [
-        (j.into(), "first=possible\nparts=12111111\nlisted=1\nargument=3\n"),
+        (j.into(), "first=possible\nparts=22111111\nlisted=2\nargument=0\nargument=3\n"),
         (P11.text(), p11),
         (Domain { curve: -1, ..P11 }.text(), p11),
         (Domain { value: 1, ..P11 }.text(), cleared),
         (Domain { value: 17, ..P11 }.text(), "first=possible\nparts=11111111\nlisted=0\n"),
         (Domain { value: 4, slope: 16, curve: -2, count: 24, window: 2, ..J }.text(), scattered),
         (Domain { modulus: 2, value: 0, slope: 0, window: 0, ..J }.text(), cleared),
+        (Domain { modulus: 10, value: 3, slope: 3, curve: 0, count: 8, window: 2 }.text(), either_side),
+        (Domain { modulus: 11, value: 5, slope: 0, curve: 0, count: 8, window: 5 }.text(), cleared),
+        (Domain { modulus: 11, value: 5, slope: 0, curve: 0, count: 8, window: 6 }.text(), &all_eight),
     ];
     let both = |(text, output): (String, &str)| {
         let domain = reading(text.as_bytes()).unwrap();
@@ -305,18 +311,22 @@ fn malformed_and_refused() -> Vec<Case> {
 
 /// The domain with the window at which so many arguments are hard, if there is one.
 fn with_hard(number: usize, domain: Domain) -> Option<Domain> {
-    let mut values: Vec<u64> = (0..domain.count).map(|x| domain.value_at(x)).collect();
-    values.sort();
-    let domain = Domain { window: values[number - 1] + 1, ..domain };
+    let mut distances: Vec<u64> = (0..domain.count).map(|x| domain.distance(x)).collect();
+    distances.sort();
+    let domain = Domain { window: distances[number - 1] + 1, ..domain };
     (domain.hard().len() == number).then_some(domain)
 }
 
 /// Lists of as many arguments as there are places, of one fewer and one more.
 fn full_lists() -> Vec<Case> {
-    let mut cases: Vec<Case> = [4096, MOST - 1_000_000].map(|value| job(Domain { value, ..LONGEST_LIST })).into();
+    let earlier = 2 * MOST - 4095 - 2 * 1_000_000;
+    let mut cases: Vec<Case> = [4097, earlier].map(|value| job(Domain { value, ..LONGEST_LIST })).into();
     assert!(cases.iter().all(|case| case.output.len() == LONGEST_OUTPUT));
-    cases.push(job(Domain { window: 4095, ..LONGEST_LIST }));
-    cases.extend([4097, 5000, MOST].map(|window| refused(7, Domain { window, ..LONGEST_LIST })));
+    // Of even values an odd number is hard.
+    let even = Domain { value: 4096, ..LONGEST_LIST };
+    cases.push(job(even));
+    assert!(cases[2].output.contains("listed=4095\n"));
+    cases.extend([4097, 5000, MOST].map(|window| refused(7, Domain { window, ..even })));
     for modulus in [2, 45, LARGEST] {
         let all = Domain { modulus, window: modulus, ..P11 };
         cases.extend([4088, 4096].map(|count| job(Domain { count, ..all })));
@@ -337,12 +347,16 @@ fn printed_numbers_of_every_length() -> Vec<Case> {
     let mut cases = Vec::new();
     for power in (0..7).map(|power| 10_u64.pow(power)) {
         // Hard at the power and just before it.
-        let (value, count) = ((MOST + 1 - power) % MOST, power / 8 * 8 + 8);
+        let (value, count) = ((2 * MOST + 1 - 2 * power) % (2 * MOST), power / 8 * 8 + 8);
         cases.push(job(Domain { value, count, window: 2, ..LONGEST_LIST }));
+        // With this window as many odd values are hard, or even ones for an odd number.
         let listed = [power - 1, power, power + 1].into_iter().filter(|&listed| listed <= PLACES as u64);
-        cases.extend(
-            listed.map(|window| job(Domain { modulus: 4096, value: 17, slope: 1, curve: 0, count: 4096, window })),
-        );
+        cases.extend(listed.map(|listed| {
+            let value = 17 + listed % 2;
+            let domain = Domain { modulus: 8192, value, slope: 2, curve: 0, count: 4096, window: listed };
+            assert_eq!(domain.hard().len() as u64, listed);
+            job(domain)
+        }));
     }
     cases
 }

@@ -1,5 +1,5 @@
-//! Document 01's definitions, computed as they stand there: nothing here knows how the calls find their answers. Only residues that
-//! may be too many to go through are counted by a floor sum. Wide numbers, so that nothing can wrap.
+//! Document 01's definitions, as document 02 changes them, computed as they stand there: nothing here knows how the calls find their
+//! answers. Only residues that may be too many to go through are counted by a floor sum. Wide numbers, so that nothing can wrap.
 
 // Each program uses some of them.
 #![allow(dead_code)]
@@ -124,7 +124,7 @@ fn floor_sum(n: u128, m: u128, a: u128, b: u128) -> u128 {
 }
 
 /// The first number below the end at which something holds, by halving: it holds from there on, and at the last.
-fn first(end: u64, holds: impl Fn(u64) -> bool) -> u64 {
+pub fn first(end: u64, holds: impl Fn(u64) -> bool) -> u64 {
     let (mut low, mut high) = (0, end - 1);
     while low < high {
         let middle = (low + high) / 2;
@@ -255,9 +255,20 @@ impl Domain {
         self.reduced(value + slope * x + curve * (x * (x - 1) / 2))
     }
 
+    /// The distance of V(x) to the nearest multiple of M.
+    pub fn distance(&self, x: u64) -> u64 {
+        let value = self.value_at(x);
+        value.min(self.modulus - value)
+    }
+
+    /// Hard on either side: that distance is less than w.
+    pub fn is_hard(&self, x: u64) -> bool {
+        self.distance(x) < self.window
+    }
+
     /// The hard arguments, by going through them all.
     pub fn hard(&self) -> Vec<u32> {
-        (0..self.count).filter(|&x| self.value_at(x) < self.window).map(|x| x as u32).collect()
+        (0..self.count).filter(|&x| self.is_hard(x)).map(|x| x as u32).collect()
     }
 
     /// D = |s|·N(N-1)/2.
@@ -266,16 +277,17 @@ impl Domain {
         curve.abs() * (count * (count - 1) / 2)
     }
 
-    /// The covering segment.
+    /// The covering segment: by 01 for w of 0, and else by 02, which adds w - 1 to the start and has 2w - 1 + D for the window.
     pub fn covering(&self) -> Segment {
-        let deviation = self.deviation();
+        let (deviation, w) = (self.deviation(), self.window as i128);
         let start = if self.curve >= 0 { self.value as i128 + deviation } else { self.value as i128 };
+        let (start, window) = if w == 0 { (start, deviation) } else { (start + w - 1, 2 * w - 1 + deviation) };
         Segment {
             modulus: self.modulus,
             step: self.reduced(-(self.slope as i128)),
             start: self.reduced(start),
             count: self.count,
-            window: (self.window as i128 + deviation).min(self.modulus as i128) as u64,
+            window: window.min(self.modulus as i128) as u64,
         }
     }
 

@@ -1,14 +1,13 @@
 -- What the code makes of the terms of a parabola is what the definitions say. Assumes nothing.
-use mathlib.Core.Path.{_≡_, refl, sym, _∙_, subst}
-use mathlib.Core.Bool.{true, false}
+use mathlib.Core.Path.{_≡_, refl, _∙_, ap}
 use Prim.Native.Nat.{ℕ, _+_, _*_, _%_, _≤_, _<_}
-use native.Mathlib.Nat.{mod-lt}
+use native.Mathlib.Nat.{mul-one, mod-lt, mod-eq-of-lt}
 use native.Mathlib.Omega.{arith}
-use lib.Dec.{T, leb·suc-zero}
+use lib.Dec.{leb·zero}
 use lib.IntN.{ℤ, pos, negsuc, _*ℤ_}
-use lib.Signed.{ltZ}
+use lib.Signed.{leZ}
 use mir.Syntax.{w64}
-use mir.Val.{SFits, toZ}
+use mir.Val.{SFits, toZ, boolByte}
 use Rattle.numbers.specs.Integers.{_modulo_}
 use Rattle.numbers.proofs.Congruences.{Congruent, equals, chain, plus, remainder}
 use Rattle.numbers.proofs.Integers.{gain, loss, product, mod-congruent}
@@ -57,20 +56,11 @@ module _ {p : Parabola} (range : In-range p) where
   pub curve-kept : read (p .curve) ≡ p .curve
   curve-kept = curve-read (p .curve) (range .size-small)
 
--- where the covering segment starts
-module _ (p : Parabola) where
-  pub start-negative : ltZ (p .curve) (pos 0) ≡ true → p .value ≡ covering-start p
+  -- where the covering segment starts: above the value by D, or by nothing where the curve is negative
+  pub start-risen : (p .value + spread p * boolByte (leZ (pos 0) (p .curve))) % p .unit ≡ covering-start p
   unfolding covering-start
-  start-negative e = by (p .curve) e
+  start-risen = by (p .curve)
     where
-      by : (z : ℤ) → ltZ z (pos 0) ≡ true → p .value ≡ start-over z (p .unit) (p .value) (spread p)
-      by (pos n) e = absurd (subst T (sym e ∙ leb·suc-zero n) tt)
-      by (negsuc n) e = unfold start-over in refl
-
-  pub start-rising : ltZ (p .curve) (pos 0) ≡ false → (p .value + spread p) % p .unit ≡ covering-start p
-  unfolding covering-start
-  start-rising e = by (p .curve) e
-    where
-      by : (z : ℤ) → ltZ z (pos 0) ≡ false → (p .value + spread p) % p .unit ≡ start-over z (p .unit) (p .value) (spread p)
-      by (pos n) e = unfold start-over in refl
-      by (negsuc n) e = absurd (subst T e tt)
+      by : (z : ℤ) → (p .value + spread p * boolByte (leZ (pos 0) z)) % p .unit ≡ start-over z (p .unit) (p .value) (spread p)
+      by (pos n) = unfold start-over in rw (leb·zero n) (ap (λ (k : ℕ). (p .value + k) % p .unit) (mul-one (spread p)))
+      by (negsuc n) = unfold start-over in ap (λ (k : ℕ). k % p .unit) (omega arith) ∙ mod-eq-of-lt (range .value-below)

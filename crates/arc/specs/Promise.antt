@@ -38,7 +38,7 @@ pub record Arc-correct (a : Arc) : Type 0 where
       → point-answer a x ≡ At ((pos (a .value) +ℤ pos (a .slope) *ℤ pos x +ℤ a .curve *ℤ pos (x * (x - 1) / 2)) modulo a .modulus)
       ((pos (a .slope) +ℤ a .curve *ℤ pos x) modulo a .modulus)
   pub outside : (x : ℕ) → (point-answer a x ≡ Outside) ↔ (In-range (parabola a) → x < a .count → ⊥)
-  -- within the bounds a verdict is that of a search of the covering segment, which is accepted; clear leaves no hard argument
+  -- within the bounds a verdict is that of a search of the covering segment, which is accepted; clear leaves no value less than the window
   pub covering-accepted : In-range (parabola a) → segment.Accepted (covering (parabola a))
   pub verdict-is : (k : Search) → In-range (parabola a) → arc-verdict k a ≡ verdict k (covering (parabola a))
   pub clear : (k : Search) → arc-verdict k a ≡ Clear

@@ -26,15 +26,13 @@ pub(crate) fn cover(arc: Arc) -> Covering
 }
 
 // A curve that is not negative adds to the values, so that the segment starts above them by all that it may add; a negative one takes from them,
-// so that it starts with them.
+// so that it starts with them. No branch: the signs of one domain after another may be hard to foresee.
 fn covering_start(arc: Arc) -> u64
     requires { ⌜ In-range (parabola arc) ⌝ }
     ensures { λ r. ⌜ r ≡ covering-start (parabola arc) ⌝ }
 {
-    if arc.curve < 0 {
-        return arc.value;
-    }
-    reduce(arc.value + spread(arc), arc.modulus)
+    let rise = spread(arc) * (0 <= arc.curve) as u64;
+    reduce(arc.value + rise, arc.modulus)
 }
 
 fn covering_window(arc: Arc) -> u64

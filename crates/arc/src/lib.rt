@@ -1,6 +1,6 @@
 // Arcs: the parabola V(x) = (value + slope·x + curve·x(x-1)/2) mod modulus over the arguments x below count, in machine numbers. Its values and
-// slopes, and whether a search of the segment that covers it clears it. A domain is an arc, each of its parts is one, and a segment is one
-// without a curve.
+// slopes, and whether a search of the segment that covers it clears it. Hard is an argument of an arc where V(x) is less than the window, on one
+// side. A domain and its parts are searched as arcs that are raised, so that this test is of both sides; a segment is an arc without a curve.
 ghost use mathlib.Core.Path.{_≡_};
 ghost use Rattle.expansion.specs.Reached.Search.{regular, fine};
 ghost use Rattle.arc.specs.Arc.{refusal, point-answer, arc-verdict};
@@ -61,7 +61,8 @@ pub fn point_at(arc: Arc, x: u64) -> PointAnswer
     }
 }
 
-// Whether the regular search clears the covering segment: then no argument of the arc is hard. An arc outside the bounds is never cleared.
+// Whether the regular search clears the covering segment: then V(x) is not less than the window at any argument. An arc outside the bounds is
+// never cleared.
 pub fn regular_verdict(arc: Arc) -> segment::Verdict
     ensures { λ r. ⌜ r ≡ arc-verdict regular arc ⌝ }
 {

@@ -15,6 +15,7 @@ use borrow.Author.Tests.{eq-eqb, ne-eqb}
 use Rattle.numbers.specs.Checklist.{first-failing, unless-refused}
 use Rattle.numbers.specs.Lists.{overwrite-front}
 use Rattle.numbers.proofs.Checklists.{accepts, accepted, refused, alike, first-of-two, second-of-two, neither-refuses}
+use Rattle.numbers.proofs.Selections.{kept-most}
 use Rattle.numbers.proofs.Buffers.{written-front}
 use Rattle.expansion.specs.Reached.Search.{regular}
 use Rattle.geometry.specs.Segment.{Segment}
@@ -74,11 +75,7 @@ abbrev eighths : (n : ℕ) → ℕ
 eighths n = n * boolByte (eqb (n % 8) 0)
 
 pub eighths-most : (n : ℕ) → eighths n ≤ n
-eighths-most n = by (eqb (n % 8) 0)
-  where
-    by : (b : Bool) → n * boolByte b ≤ n
-    by true = omega arith
-    by false = omega arith
+eighths-most n = kept-most n (eqb (n % 8) 0)
 
 eighths-within : (n : ℕ) → ((1 ≤ eighths n) × (eighths n ≤ 1048576)) ↔ ((8 ≤ n) × ((n ≤ 1048576) × (n % 8 ≡ 0)))
 eighths-within n =

@@ -1,21 +1,22 @@
 -- Hard in a call's own numbers is hard by the definition of values, or of residues. Assumes nothing.
 use mathlib.Core.Path.{_≡_, refl, ap, subst}
-use mathlib.Core.Logic.{_↔_, _⊎_}
-use Prim.Native.Nat.{ℕ, _+_, _-_, _*_, _/_, _<_}
+use mathlib.Core.Logic.{_↔_, _⊎_, inl, inr, ⊎-elim, by-cases}
+use Prim.Native.Nat.{ℕ, suc, _+_, _-_, _*_, _/_, _≤_, _<_}
 use native.Mathlib.Nat.{div-add-mod'}
+use native.Mathlib.Decide.{decLe}
 use native.Mathlib.Omega.{arith}
 use lib.IntN.{ℤ, pos, subℕ, _+ℤ_, _*ℤ_}
 use Rattle.numbers.proofs.Congruences.{Congruent, flip, chain, cancel, same}
-use Rattle.numbers.proofs.Integers.{gain, loss, Difference, number, difference, sum, product, scaled, balanced, same-integer}
+use Rattle.numbers.proofs.Integers.{gain, loss, Difference, number, difference, sum, product, scaled, balanced, same-integer, size-below}
 use Rattle.geometry.specs.Segment.{Segment, residue}
 use Rattle.geometry.specs.Segment as geometry
 use Rattle.geometry.proofs.Laws.{residue-lt, residue-congruent}
 use Rattle.geometry.proofs.Promises as geometry-promises
-use Rattle.parabola.specs.Parabola.{Hard, Near, triangle, value-at}
+use Rattle.parabola.specs.Parabola.{Hard, triangle, value-at, centred}
 use Rattle.parabola.proofs.Laws.{triangle-twice, value-congruent, value-is}
 use Rattle.parabola.proofs.Promises.{promised}
 use Rattle.domain.specs.Domain.{parabola-of, centred-of, Accepted}
-use Rattle.domain.specs.Promise.{Hard-in-numbers, Hard-in-segment}
+use Rattle.domain.specs.Promise.{Hard-in-numbers, Near-a-multiple, Hard-in-segment}
 use Rattle.domain.specs.declared.Domain.{Domain}
 
 module _ (d : Domain) (x : ℕ) where
@@ -29,17 +30,21 @@ module _ (d : Domain) (x : ℕ) where
   twice : (n : ℕ) → n * (x * (x - 1)) ≡ 2 * (n * triangle x)
   twice n = omega (arith, ap (λ (m : ℕ). n * m) (triangle-twice x))
 
-  near-by-numbers : 0 < d .modulus → Near (parabola-of d) x ↔ Hard-in-numbers d x
-  near-by-numbers positive = (to, from)
+  -- hard on either side, by the definition of values
+  abbrev Either-side : Type 0
+  Either-side = (x < d .count) × ((value-at (parabola-of d) x < d .window) ⊎ (d .modulus - value-at (parabola-of d) x < d .window))
+
+  by-values : 0 < d .modulus → Either-side ↔ Hard-in-numbers d x
+  by-values positive = (to, from)
     where
-      to : Near (parabola-of d) x → Hard-in-numbers d x
+      to : Either-side → Hard-in-numbers d x
       to h =
           let c = value-congruent (parabola-of d) positive x in
           let e = same-integer (number (2 * value-at (parabola-of d) x)) (doubled (difference (c .under) (c .over)))
           (omega (arith, c .equal, twice (gain (d .curve)), twice (loss (d .curve)))) in
           (h .0, (value-at (parabola-of d) x, promised .values (parabola-of d) positive .in-range x, h .1, (subℕ (c .under) (c .over), e)))
 
-      from : Hard-in-numbers d x → Near (parabola-of d) x
+      from : Hard-in-numbers d x → Either-side
       from h =
           let v = h .1 .0 in
           let k = h .1 .3 .0 in
@@ -51,9 +56,52 @@ module _ (d : Domain) (x : ℕ) where
   -- it is hard by the test of the parabola that the phases search
   pub hard-by-numbers : Accepted d → Hard (centred-of d) x ↔ Hard-in-numbers d x
   hard-by-numbers a =
-      let near = near-by-numbers (omega (arith, a .in-range .value-below)) in
+      let values = by-values (omega (arith, a .in-range .value-below)) in
       let hard = promised .centred-correct (parabola-of d) (a .in-range) .hard x in
-      (λ h. near .0 (hard .0 h), λ h. hard .1 (near .1 h))
+      unfold centred in (λ h. values .0 (h .0, hard .0 (h .1)), λ h. let v = values .1 h in (v .0, hard .1 (v .1)))
+
+  -- ---- by the distance to a multiple
+
+  -- twice the terms of V(x) and k times twice the modulus: what they add, and what they take away
+  abbrev added : (k : ℕ) → ℕ
+  added k = 2 * (d .value + d .slope * x) + gain (d .curve) * (x * (x - 1)) + k * (2 * d .modulus)
+
+  abbrev taken : (k : ℕ) → ℕ
+  taken k = 0 + loss (d .curve) * (x * (x - 1)) + k * (2 * d .modulus)
+
+  -- a number below M that makes up the difference is the remainder
+  remainder-of : (v a b : ℕ) → v < d .modulus → (v < d .window) ⊎ (d .modulus - v < d .window) → x < d .count → 2 * v + taken b ≡ added a → Hard-in-numbers d x
+  remainder-of v a b low near below e =
+      (below, (v, low, near, (subℕ a b, same-integer (number (2 * v)) (doubled (difference a b)) (omega (arith, e)))))
+
+  pub nearest : d .window ≤ d .modulus → Hard-in-numbers d x ↔ Near-a-multiple d x
+  nearest most = (to, from)
+    where
+      -- v is above a multiple, or below the next one
+      to : Hard-in-numbers d x → Near-a-multiple d x
+      to h =
+          let v = h .1 .0 in
+          let k = h .1 .3 .0 in
+          let e = balanced (h .1 .3 .1) (number (2 * v)) (doubled {k = k} {a = gain k} {b = loss k} (record { balance = refl })) in
+          ⊎-elim
+          (λ l. (h .0, (k, size-below (doubled {k = k} {a = gain k} {b = loss k} (record { balance = refl })) .1 (omega (arith, e, l), omega (arith, e, l)))))
+          (λ l. (
+            h .0,
+            (subℕ (gain k) (suc (loss k)), size-below (doubled (difference (gain k) (suc (loss k)))) .1 (omega (arith, e, h .1 .1), omega (arith, e, l))),
+          ))
+          (h .1 .2)
+
+      from : Near-a-multiple d x → Hard-in-numbers d x
+      from h =
+          let k = h .1 .0 in
+          let l = size-below (doubled {k = k} {a = gain k} {b = loss k} (record { balance = refl })) .0 (h .1 .1) in
+          let even = twice (gain (d .curve)) in
+          let even-taken = twice (loss (d .curve)) in
+          by-cases (decLe (taken (loss k)) (added (gain k)))
+          (λ m. remainder-of ((added (gain k) - taken (loss k)) / 2) (gain k) (loss k) (omega (arith, l .0)) (inl (omega (arith, l .0))) (h .0)
+          (omega (arith, even, even-taken)))
+          (λ m. remainder-of (d .modulus - (taken (loss k) - added (gain k)) / 2) (suc (gain k)) (loss k) (omega (arith, even, even-taken))
+          (inr (omega (arith, l .1, even, even-taken))) (h .0) (omega (arith, l .1, even, even-taken)))
 
 -- of a segment
 module _ (s : Segment) (x : ℕ) where

@@ -21,7 +21,7 @@ use Rattle.segment.specs.Accepted as segment
 use Rattle.segment.specs.Search.{verdict}
 use Rattle.segment.specs.declared.Verdict.{Verdict}
 use Rattle.segment.specs.declared.Verdict.the-variants.{Clear}
-use Rattle.parabola.specs.Parabola.{Parabola, In-range, triangle, value-at, slope-at, is-hard, hard-list, Hard, Near, centred, covering, continued, part-start, part-count, part}
+use Rattle.parabola.specs.Parabola.{Parabola, In-range, triangle, value-at, slope-at, is-hard, hard-list, Hard, centred, covering, continued, part-start, part-count, part}
 use Rattle.parabola.specs.Promise.{Covering-both-correct}
 use Rattle.parabola.proofs.Laws.{centred-divisible}
 use Rattle.parabola.proofs.Promises as parabola
@@ -29,12 +29,12 @@ use Rattle.arc.proofs.Promises as arc
 use Rattle.domain.specs.Domain.{parabola-of, centred-of, hard-arguments, covering-of, part-covering, Accepted}
 use Rattle.domain.specs.Scan.{next-point}
 use Rattle.domain.specs.Answer.{domain-checks, domain-number, answer-with, domain-answer, marks-of, marks-after, list-after, domain-refusal, domain-first, domain-count, scan-checks, scan-number, scan-answer-with, scan-answer, scan-list-after, scan-refusal, scan-count}
-use Rattle.domain.specs.Promise.{Parabola-correct, Hard-in-numbers, Hard-in-segment, Coverings-correct, Refused-for, Scan-refused-for, Marks-correct, Domain-correct, Scan-correct, Promised}
+use Rattle.domain.specs.Promise.{Parabola-correct, Hard-in-numbers, Hard-in-segment, Coverings-correct, Without-window, Refused-for, Scan-refused-for, Marks-correct, Domain-correct, Scan-correct, Promised}
 use Rattle.domain.specs.declared.Domain.{Domain}
 use Rattle.domain.specs.declared.DomainAnswer.the-variants as domain-variants
 use Rattle.domain.specs.declared.ScanAnswer.the-variants as scan-variants
 use Rattle.domain.proofs.Answers.{number-accepts, scan-accepts}
-use Rattle.domain.proofs.Numbers.{hard-by-numbers, hard-in-segment}
+use Rattle.domain.proofs.Numbers.{hard-by-numbers, nearest, hard-in-segment}
 use Rattle.domain.proofs.Verdicts.{arc-of, nothing-listed, phases-correct, marks-correct}
 
 parabola-correct : (d : Domain) → Parabola-correct d
@@ -44,27 +44,16 @@ parabola-correct d =
 
 -- ---- hard arguments
 
-hard-lists : (d : Domain) → Accepted d → Enumerates (Near (parabola-of d)) (count-if (is-hard (centred-of d)) (d .count) 0) (hard-arguments d)
+hard-lists : (d : Domain) → Accepted d → Enumerates (Hard-in-numbers d) (length (hard-arguments d)) (hard-arguments d)
 unfolding centred
 hard-lists d a =
     let l = parabola.promised .hard-lists (centred-of d) (a .in-range .count-high) in
-    let near = parabola.promised .centred-correct (parabola-of d) (a .in-range) .hard in
     record {
-      exactly = λ x. (λ m. near x .0 (l .exactly x .0 m), λ n. l .exactly x .1 (near x .1 n));
+      exactly = λ x. (λ m. hard-by-numbers d x a .0 (l .exactly x .0 m), λ h. l .exactly x .1 (hard-by-numbers d x a .1 h));
       ascending = l .ascending;
       fits = l .fits;
-      counted = l .counted;
+      counted = refl;
     }
-
-without-window : (d : Domain) → Accepted d → d .window ≡ 0
-    → (centred-of d ≡ parabola-of d) × (hard-arguments d ≡ []) × ((x : ℕ) → Hard-in-numbers d x → ⊥)
-unfolding hard-list is-hard
-without-window d a e =
-    let same = parabola.promised .centred-correct (parabola-of d) (a .in-range) .unchanged e in (
-      same,
-      ap hard-list same ∙ filter-empty (is-hard (parabola-of d)) (d .count) 0 (λ y l h. le-ltb (value-at (parabola-of d) y) (d .window) (omega arith)),
-      λ x h. ⊎-elim (λ l. omega (arith, l)) (λ l. omega (arith, l)) (h .1 .2),
-    )
 
 -- ---- covering segments
 
@@ -102,6 +91,26 @@ module _ (p : Parabola) where
   unfolding answer-with
   reports-with zero v n = (λ e. (refl, cc, cc), λ h. ap₂ domain-variants.Searched (sym (h .1)) (sym (h .2)))
   reports-with (suc k) v n = (λ e. absurd (let z : _≡_ {A = ℕ} 0 1 = cc in omega arith), λ h. absurd (omega (arith, h .0)))
+
+-- with a window of 0 nothing is listed
+none-listed : (d : Domain) → Accepted d → d .window ≡ 0 → hard-arguments d ≡ []
+unfolding hard-list is-hard
+none-listed d a e =
+    ap hard-list (parabola.promised .centred-correct (parabola-of d) (a .in-range) .unchanged e)
+    ∙ filter-empty (is-hard (parabola-of d)) (d .count) 0 (λ y l h. le-ltb (value-at (parabola-of d) y) (d .window) (omega arith))
+
+without-window : (d : Domain) → Accepted d → d .window ≡ 0 → Without-window d
+unfolding domain-answer
+without-window d a e =
+    let c = coverings-correct d a in
+    record {
+      whole = c .whole .unchanged e;
+      of-part = λ i h l f. c .of-part i h l f .unchanged e;
+      none-hard = λ x h. ⊎-elim (λ l. omega (arith, e, l)) (λ l. omega (arith, e, l)) (h .1 .2);
+      answered = λ places.
+          let none : length (hard-arguments d) ≡ 0 = ap length (none-listed d a e) in
+          reports-with (centred-of d) (domain-number d places) _ 0 .1 (number-accepts d places .1 (a, omega (arith, none)), refl, sym none);
+    }
 
 -- an empty list over another
 nothing-over : {xs : List ℕ} (old : List ℕ) → xs ≡ [] → overwrite-front xs old ≡ old
@@ -258,6 +267,7 @@ promised =
       parabolas = parabola-correct;
       values = λ d positive. parabola.promised .values (parabola-of d) positive;
       centred = λ d a. parabola.promised .centred-correct (parabola-of d) (a .in-range);
+      nearest = λ d a x. nearest d x (a .in-range .window-within);
       hard-lists = hard-lists;
       without-window = without-window;
       accepted = λ d. (λ a. omega arith, λ h. omega arith);

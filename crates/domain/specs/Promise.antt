@@ -9,7 +9,7 @@ use lib.IntN.{ℤ, pos, natAbs, _+ℤ_, _*ℤ_}
 use lib.ListN.{length, getD, take}
 use Rattle.numbers.specs.Checklist.{Condition, condition, Refused-by}
 use Rattle.numbers.specs.Integers.{_modulo_}
-use Rattle.numbers.specs.Lists.{count-if, overwrite-front}
+use Rattle.numbers.specs.Lists.{overwrite-front}
 use Rattle.numbers.specs.Promise.{Enumerates, Buffer-correct}
 use Rattle.expansion.specs.Reached.{Search}
 use Rattle.expansion.specs.Reached.Search.{regular, fine}
@@ -20,8 +20,8 @@ use Rattle.segment.specs.Search.{distance, verdict}
 use Rattle.segment.specs.Promise as segment-promise
 use Rattle.segment.specs.declared.Verdict.{Verdict}
 use Rattle.segment.specs.declared.Verdict.the-variants.{Clear, Possible}
-use Rattle.parabola.specs.Parabola.{Parabola, value-at, slope-at, second-difference, is-hard, Near, part-start, part-count, part}
-use Rattle.parabola.specs.Promise.{Values-correct, Covers-both-by, Covering-both-correct, Centred-correct, Parts-correct}
+use Rattle.parabola.specs.Parabola.{Parabola, value-at, slope-at, second-difference, part-start, part-count, part}
+use Rattle.parabola.specs.Promise.{Values-correct, Covers-by, Covers-both-by, Covering-both-correct, Centred-correct, Parts-correct}
 use Rattle.domain.specs.Domain.{parabola-of, centred-of, hard-arguments, covering-of, part-covering, Accepted}
 use Rattle.domain.specs.Scan.{next-point}
 use Rattle.domain.specs.Answer.{domain-answer, marks-of, marks-after, list-after, domain-refusal, domain-first, domain-count, scan-answer, scan-list-after, scan-refusal, scan-count}
@@ -51,7 +51,13 @@ Hard-in-numbers d x =
     × ((v : ℕ) × (v < d .modulus) × ((v < d .window) ⊎ (d .modulus - v < d .window))
     × ((k : ℤ) × (pos (2 * v) ≡ pos (2 * (d .value + d .slope * x)) +ℤ d .curve *ℤ pos (x * (x - 1)) +ℤ k *ℤ pos (2 * d .modulus))))
 
--- the same of a segment: below N, with an r below M and below w that differs from b - a·x by a multiple of M. With b below M that multiple is not negative
+-- by distances: c0 + c1·x + s·x(x-1)/2 is less than w from some multiple of M, and so from the nearest. All is doubled here too
+abbrev pub Near-a-multiple : Domain → (x : ℕ) → Type 0
+Near-a-multiple d x =
+    (x < d .count)
+    × ((k : ℤ) × (natAbs (pos (2 * (d .value + d .slope * x)) +ℤ d .curve *ℤ pos (x * (x - 1)) +ℤ k *ℤ pos (2 * d .modulus)) < 2 * d .window))
+
+-- the same of a segment, on one side: below N, with an r below M and below w that differs from b - a·x by a multiple of M. With b below M that multiple is not negative
 abbrev pub Hard-in-segment : (M a b N w x : ℕ) → Type 0
 Hard-in-segment M a b N w x = (x < N) × ((r : ℕ) × (r < M) × (r < w) × ((k : ℕ) × (r + a * x ≡ b + k * M)))
 
@@ -69,6 +75,16 @@ pub record Coverings-correct (d : Domain) : Type 0 where
   pub part-accepted : (i : ℕ) → i < 8 → segment.Accepted (part-covering d i)
   pub part-covers : (i : ℕ) → i < 8 → Covering-both-correct (part (parabola-of d) i) (part-covering d i)
 
+-- for a window of 0 nothing changed: the covering segments of a domain and of its parts are those of document 01, nothing is hard, so that every list is
+-- long enough, and phase 1's verdict is answered
+pub record Without-window (d : Domain) : Type 0 where
+  pub whole : Covers-by (d .modulus) (d .value) (d .slope) (d .curve) (d .count) 0 (covering-of d)
+  pub of-part : (i h : ℕ) → i < 8 → h ≡ i * (d .count / 8)
+      → Covers-by (d .modulus) ((pos (d .value) +ℤ pos (d .slope) *ℤ pos h +ℤ d .curve *ℤ pos (h * (h - 1) / 2)) modulo d .modulus)
+      ((pos (d .slope) +ℤ d .curve *ℤ pos h) modulo d .modulus) (d .curve) (d .count / 8) 0 (part-covering d i)
+  pub none-hard : (x : ℕ) → Hard-in-numbers d x → ⊥
+  pub answered : (places : ℕ) → domain-answer d places ≡ domain-variants.Searched (verdict regular (covering-of d)) 0
+
 -- ---- the phases
 
 -- a segment is cleared by a search
@@ -83,8 +99,8 @@ In-part d i x = (part-start (parabola-of d) i ≤ x) × (x < part-start (parabol
 abbrev pub None-in-part : Domain → (i : ℕ) → Type 0
 None-in-part d i = (x : ℕ) → In-part d i x → Hard-in-numbers d x → ⊥
 
--- phase 1 clears a domain exactly where the regular search clears its covering segment, that is, where the distance is at least that segment's
--- window, and then no argument is hard; phase 2 clears a part so by the fine search of the part's covering segment
+-- phase 1's verdict is clear exactly where the regular search clears the covering segment, that is, where the distance is at least that segment's
+-- window, and then no argument is hard; phase 2's verdict on a part is so by the fine search of the part's covering segment
 pub record Phases-correct (d : Domain) : Type 0 where
   pub first-cleared : (verdict regular (covering-of d) ≡ Clear) ↔ Cleared-by regular (covering-of d)
   pub first-distance : (verdict regular (covering-of d) ≡ Clear) ↔ (covering-of d .window ≤ distance regular (covering-of d))
@@ -175,14 +191,14 @@ pub record Promised : Type 0 where
       ↔ ((2 ≤ d .modulus) × (d .modulus ≤ 2 ^ 62) × (d .slope < d .modulus) × (d .value < d .modulus) × (8 ≤ d .count) × (d .count ≤ 1048576)
       × (d .count % 8 ≡ 0) × (d .window ≤ d .modulus) × (natAbs (d .curve) ≤ 1048576))
   pub values : (d : Domain) → 0 < d .modulus → Values-correct (parabola-of d)
-  -- the parabola that the phases search has the values raised by w - 1, and its hard arguments are the near ones
+  -- the parabola that the phases search has the values raised by w - 1 and a window for both sides
   pub centred : (d : Domain) → Accepted d → Centred-correct (parabola-of d)
-  pub hard-lists : (d : Domain) → Accepted d → Enumerates (Near (parabola-of d)) (count-if (is-hard (centred-of d)) (d .count) 0) (hard-arguments d)
-  -- for a window of 0 the phases search the parabola itself, and nothing is hard
-  pub without-window : (d : Domain) → Accepted d → d .window ≡ 0
-      → (centred-of d ≡ parabola-of d) × (hard-arguments d ≡ []) × ((x : ℕ) → Hard-in-numbers d x → ⊥)
+  -- hard is what is less than w from the nearest multiple of M
+  pub nearest : (d : Domain) → Accepted d → (x : ℕ) → Hard-in-numbers d x ↔ Near-a-multiple d x
+  pub hard-lists : (d : Domain) → Accepted d → Enumerates (Hard-in-numbers d) (length (hard-arguments d)) (hard-arguments d)
+  pub without-window : (d : Domain) → Accepted d → d .window ≡ 0 → Without-window d
   pub coverings : (d : Domain) → Accepted d → Coverings-correct d
-  -- the parts of a domain, and those of the parabola that the phases search, which are the same, centred
+  -- the parts of a domain; and those of the parabola that the phases search, whose lists make up the list of the domain
   pub parts : (d : Domain) → Accepted d → Parts-correct (parabola-of d)
   pub centred-parts : (d : Domain) → Accepted d → Parts-correct (centred-of d)
   -- a scan goes from the value and the slope at x to those at x + 1

@@ -103,7 +103,7 @@ example-9 =
 
 example-10 : Example-10
 unfolding decLe decLt Dec·and ℕ-discrete ranged first-failing unless-refused rows-from expansion regular-from regular parts-from fine-from fine configurations-of reached-in reached residue least-from argument distance verdict-at filter-range tabulate overwrite-front _modulo_ triangle value-at slope-at parabola.is-hard parabola.hard-list parabola.centred spread covering-step start-over covering-start covering-window continued part-count part-start mark-of marks-by domain-number domain-answer-with domain-answer marks-after list-after decimal-within decimal starts takes-digit digits-from number-from field-at unsigned opposite signed-from signed-field-at rest-from reading verdict-name argument-lines refused report printed-for printed output-with output-of
-example-10 = record { prints = refl; read = refl; answered = refl; marks = λ old. refl; left = λ x y z. refl; covered = refl }
+example-10 = record { prints = refl; read = refl; answered = refl; marks = λ old. refl; left = λ x y z. refl; covered = refl; too-few = refl; left-too-few = λ x. refl }
 
 example-11 : Example-11
 unfolding decLe decLt Dec·and ℕ-discrete ranged first-failing unless-refused rows-from expansion regular-from regular parts-from fine-from fine configurations-of reached-in reached residue least-from argument distance verdict-at filter-range tabulate overwrite-front _modulo_ triangle value-at slope-at parabola.is-hard parabola.hard-list parabola.centred spread covering-step start-over covering-start covering-window continued part-count part-start mark-of marks-by domain-number domain-answer-with domain-answer marks-after list-after
@@ -121,14 +121,28 @@ both-sides : Both-sides
 unfolding decLe decLt Dec·and ℕ-discrete ranged first-failing unless-refused rows-from expansion regular-from regular parts-from fine-from fine configurations-of reached-in reached residue least-from argument distance verdict-at filter-range tabulate overwrite-front _modulo_ triangle value-at slope-at parabola.is-hard parabola.hard-list parabola.centred spread covering-step start-over covering-start covering-window continued part-count part-start mark-of marks-by domain-number domain-answer-with domain-answer marks-after list-after
 both-sides =
     record {
-      two = refl;
-      two-marks = λ old. refl;
-      two-left = λ x y. refl;
-      six = refl;
-      six-left = refl;
-      half = refl;
-      more-than-half = refl;
-      more-than-half-left = refl;
+      line-2 = refl;
+      line-2-marks = λ old. refl;
+      line-2-left = λ x y. refl;
+      line-6 = refl;
+      line-6-left = refl;
+      above-5 = refl;
+      above-6 = refl;
+      above-6-left = refl;
+      below-5 = refl;
+      below-6 = refl;
+      below-6-left = refl;
+      rising = refl;
+      rising-marks = λ old. refl;
+      rising-left = λ x y. refl;
+      rising-covered = refl;
+      falling = refl;
+      falling-marks = λ old. refl;
+      falling-left = λ x y. refl;
+      falling-covered = refl;
+      without-window = refl;
+      without-window-marks = λ old. refl;
+      without-window-covered = refl;
     }
 
 pub settled : Settled

@@ -1,4 +1,4 @@
--- Document 01's settled examples marked P, and those of document 02's requests, as one statement with a field for each. Assumes nothing: these are statements.
+-- Document 01's settled examples marked P, as document 02's requests leave them, and examples of those requests, as one statement with a field for each. Assumes nothing: these are statements.
 use mathlib.Core.Path.{_≡_}
 use mathlib.Core.List.{List, [], _∷_}
 use Prim.Native.Nat.{ℕ, _≤_, _<_}
@@ -130,6 +130,9 @@ pub record Example-10 : Type 0 where
   pub marks : (old : List ℕ) → marks-after J 4096 old ≡ 2 ∷ 2 ∷ 1 ∷ 1 ∷ 1 ∷ 1 ∷ 1 ∷ 1 ∷ []
   pub left : (x y z : ℕ) → list-after J (x ∷ y ∷ z ∷ []) ≡ 0 ∷ 3 ∷ z ∷ []
   pub covered : covering-of J ≡ segment 45 14 1 16 5
+  -- with one place it is 7: 0 is hard too, whose value 44 is 1 below the modulus
+  pub too-few : domain-answer J 1 ≡ domain-variants.Refused 7
+  pub left-too-few : (x : ℕ) → list-after J (x ∷ []) ≡ x ∷ []
 
 -- the domain M 45, c0 0, c1 0, N 8, w 1 with a curve
 abbrev pub bent : (s : ℤ) → Domain
@@ -144,23 +147,54 @@ pub record Example-11 : Type 0 where
   pub falling-marks : (old : List ℕ) → marks-after (bent (negsuc 0)) 2 old ≡ 2 ∷ 2 ∷ 1 ∷ 1 ∷ 1 ∷ 1 ∷ 1 ∷ 1 ∷ []
   pub falling-left : (x y : ℕ) → list-after (bent (negsuc 0)) (x ∷ y ∷ []) ≡ 0 ∷ 1 ∷ []
 
--- both sides of a breakpoint, in a domain with one argument a part. The line 3 + 3x modulo 10: a window of 2 lists 2 and 6, whose values are 9 and 1; a window
--- of 6, half the modulus and more, lists all. The constant 5 modulo 11: its nearest multiple is 5 away, so that a window of 5 is cleared and one of 6 lists all
+-- ---- both sides of a breakpoint (2.1), in domains of eight arguments, one a part
+
+-- the line 3 + 3x modulo 10
 abbrev pub line-of-10 : (window : ℕ) → Domain
 line-of-10 w = record { modulus = 10; value = 3; slope = 3; curve = pos 0; count = 8; window = w }
 
-abbrev pub constant-of-11 : (window : ℕ) → Domain
-constant-of-11 w = record { modulus = 11; value = 5; slope = 0; curve = pos 0; count = 8; window = w }
+-- a constant modulo 11
+abbrev pub constant-of-11 : (value window : ℕ) → Domain
+constant-of-11 v w = record { modulus = 11; value = v; slope = 0; curve = pos 0; count = 8; window = w }
+
+-- parabolas with a window of 2
+abbrev pub rising-arc : Domain
+rising-arc = record { modulus = 45; value = 17; slope = 17; curve = pos 1; count = 8; window = 2 }
+
+abbrev pub falling-arc : Domain
+falling-arc = record { modulus = 45; value = 11; slope = 8; curve = negsuc 0; count = 8; window = 2 }
+
+-- without a window
+abbrev pub closed : Domain
+closed = record { modulus = 45; value = 20; slope = 0; curve = pos 1; count = 8; window = 0 }
 
 pub record Both-sides : Type 0 where
-  pub two : domain-answer (line-of-10 2) 2 ≡ domain-variants.Searched Possible 2
-  pub two-marks : (old : List ℕ) → marks-after (line-of-10 2) 2 old ≡ 1 ∷ 1 ∷ 2 ∷ 1 ∷ 1 ∷ 1 ∷ 2 ∷ 1 ∷ []
-  pub two-left : (x y : ℕ) → list-after (line-of-10 2) (x ∷ y ∷ []) ≡ 2 ∷ 6 ∷ []
-  pub six : domain-answer (line-of-10 6) 8 ≡ domain-variants.Searched Possible 8
-  pub six-left : list-after (line-of-10 6) (replicate 8 0) ≡ 0 ∷ 1 ∷ 2 ∷ 3 ∷ 4 ∷ 5 ∷ 6 ∷ 7 ∷ []
-  pub half : domain-answer (constant-of-11 5) 0 ≡ domain-variants.Searched Clear 0
-  pub more-than-half : domain-answer (constant-of-11 6) 8 ≡ domain-variants.Searched Possible 8
-  pub more-than-half-left : list-after (constant-of-11 6) (replicate 8 0) ≡ 0 ∷ 1 ∷ 2 ∷ 3 ∷ 4 ∷ 5 ∷ 6 ∷ 7 ∷ []
+  -- a window of 2 lists 2 and 6, whose values are 9 and 1; a window of 6 lists all
+  pub line-2 : domain-answer (line-of-10 2) 2 ≡ domain-variants.Searched Possible 2
+  pub line-2-marks : (old : List ℕ) → marks-after (line-of-10 2) 2 old ≡ 1 ∷ 1 ∷ 2 ∷ 1 ∷ 1 ∷ 1 ∷ 2 ∷ 1 ∷ []
+  pub line-2-left : (x y : ℕ) → list-after (line-of-10 2) (x ∷ y ∷ []) ≡ 2 ∷ 6 ∷ []
+  pub line-6 : domain-answer (line-of-10 6) 8 ≡ domain-variants.Searched Possible 8
+  pub line-6-left : list-after (line-of-10 6) (replicate 8 0) ≡ 0 ∷ 1 ∷ 2 ∷ 3 ∷ 4 ∷ 5 ∷ 6 ∷ 7 ∷ []
+  -- 5 is 5 above a multiple of 11, and 6 is 5 below one: a window of 5 is cleared, and a window of 6 lists all
+  pub above-5 : domain-answer (constant-of-11 5 5) 0 ≡ domain-variants.Searched Clear 0
+  pub above-6 : domain-answer (constant-of-11 5 6) 8 ≡ domain-variants.Searched Possible 8
+  pub above-6-left : list-after (constant-of-11 5 6) (replicate 8 0) ≡ 0 ∷ 1 ∷ 2 ∷ 3 ∷ 4 ∷ 5 ∷ 6 ∷ 7 ∷ []
+  pub below-5 : domain-answer (constant-of-11 6 5) 0 ≡ domain-variants.Searched Clear 0
+  pub below-6 : domain-answer (constant-of-11 6 6) 8 ≡ domain-variants.Searched Possible 8
+  pub below-6-left : list-after (constant-of-11 6 6) (replicate 8 0) ≡ 0 ∷ 1 ∷ 2 ∷ 3 ∷ 4 ∷ 5 ∷ 6 ∷ 7 ∷ []
+  -- values 1 and 44 listed; D is 28, the start gains 1, and the window of the covering segment is 2·2 - 1 + 28
+  pub rising : domain-answer rising-arc 2 ≡ domain-variants.Searched Possible 2
+  pub rising-marks : (old : List ℕ) → marks-after rising-arc 2 old ≡ 1 ∷ 1 ∷ 1 ∷ 1 ∷ 2 ∷ 1 ∷ 2 ∷ 1 ∷ []
+  pub rising-left : (x y : ℕ) → list-after rising-arc (x ∷ y ∷ []) ≡ 4 ∷ 6 ∷ []
+  pub rising-covered : covering-of rising-arc ≡ segment 45 28 1 8 31
+  pub falling : domain-answer falling-arc 2 ≡ domain-variants.Searched Possible 2
+  pub falling-marks : (old : List ℕ) → marks-after falling-arc 2 old ≡ 1 ∷ 1 ∷ 1 ∷ 1 ∷ 1 ∷ 1 ∷ 2 ∷ 2 ∷ []
+  pub falling-left : (x y : ℕ) → list-after falling-arc (x ∷ y ∷ []) ≡ 6 ∷ 7 ∷ []
+  pub falling-covered : covering-of falling-arc ≡ segment 45 37 12 8 31
+  -- by 01: the start is 20 + 28 modulo 45, and the window 28
+  pub without-window : domain-answer closed 0 ≡ domain-variants.Searched Possible 0
+  pub without-window-marks : (old : List ℕ) → marks-after closed 0 old ≡ 1 ∷ 1 ∷ 1 ∷ 1 ∷ 1 ∷ 1 ∷ 1 ∷ 1 ∷ []
+  pub without-window-covered : covering-of closed ≡ segment 45 0 3 8 28
 
 -- all of them
 pub record Settled : Type 0 where

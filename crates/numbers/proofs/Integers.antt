@@ -2,11 +2,12 @@
 -- Assumes nothing.
 use mathlib.Core.Path.{_≡_, refl, ap}
 use mathlib.Core.Bool.{true, false, cond}
+use mathlib.Core.Logic.{_↔_}
 use Prim.Native.Nat.{ℕ, zero, suc, _+_, _-_, _*_, _/_, _%_, _<_}
 use native.Mathlib.Nat.{mod-lt, div-add-mod'}
 use native.Mathlib.Omega.{arith}
 use lib.Dec.{ltb}
-use lib.IntN.{ℤ, pos, negsuc, negℤ, subℕ, _+ℤ_, _*ℤ_}
+use lib.IntN.{ℤ, pos, negsuc, negℤ, natAbs, subℕ, _+ℤ_, _*ℤ_}
 use borrow.Author.Tests.{ltb-true, ltb-false}
 use Rattle.numbers.specs.Integers.{_modulo_}
 use Rattle.numbers.proofs.Congruences.{Congruent, flip, chain, cancel, same}
@@ -65,6 +66,16 @@ same-integer {z = pos m} {w = pos n} p q e = ap pos (omega (arith, p .balance, q
 same-integer {z = pos m} {w = negsuc n} p q e = absurd (omega (arith, e, p .balance, q .balance))
 same-integer {z = negsuc m} {w = pos n} p q e = absurd (omega (arith, e, p .balance, q .balance))
 same-integer {z = negsuc m} {w = negsuc n} p q e = ap negsuc (omega (arith, p .balance, q .balance))
+
+-- an integer's size is what it adds and what it takes away
+pub size-is : (z : ℤ) → natAbs z ≡ gain z + loss z
+size-is (pos n) = omega arith
+size-is (negsuc n) = omega arith
+
+-- a - b is less than n in size exactly where neither of a and b exceeds the other by n
+pub size-below : {z : ℤ} {a b n : ℕ} → Difference z a b → (natAbs z < n) ↔ ((a < b + n) × (b < a + n))
+size-below {z = pos m} d = (λ h. omega (arith, h, d .balance), λ h. omega (arith, h .0, h .1, d .balance))
+size-below {z = negsuc m} d = (λ h. omega (arith, h, d .balance), λ h. omega (arith, h .0, h .1, d .balance))
 
 module _ {M : ℕ} (some : 0 < M) where
   pub mod-below : (z : ℤ) → z modulo M < M

@@ -5,7 +5,7 @@ use mathlib.Core.Bool.{Bool, true, false, cond}
 use mathlib.Core.List.{List, [], _∷_, _++_, map, List·Memᴰ, List·Memᴰ·not-nil, List·Memᴰ·cases-cons}
 use mathlib.Core.List.List·Memᴰ.{List·Memᴰ·head, List·Memᴰ·tail}
 use mathlib.Core.Logic.{_↔_, ⊎-elim}
-use Prim.Native.Nat.{ℕ, zero, suc, _+_, _-_, _≤_, _<_}
+use Prim.Native.Nat.{ℕ, zero, suc, _+_, _*_, _-_, _≤_, _<_}
 use native.Mathlib.Nat.{eq-or-lt-of-le, zero-add, add-zero, sub-eq-zero-of-le}
 use native.Mathlib.Omega.{arith}
 use lib.ListN.{length, getD}
@@ -122,6 +122,11 @@ enumerates p P count most tells =
 pub test-number : (b : Bool) → boolByte b ≡ cond b 1 0
 test-number true = refl
 test-number false = refl
+
+-- a number kept where a test holds, and else 0, is at most itself
+pub kept-most : (n : ℕ) (b : Bool) → n * boolByte b ≤ n
+kept-most n true = omega arith
+kept-most n false = omega arith
 
 -- it counts for one at most
 pub one-at-most : (b : Bool) → cond b 1 0 ≤ 1

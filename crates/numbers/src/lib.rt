@@ -52,11 +52,11 @@ pub fn min(a: u64, b: u64) -> u64
     b
 }
 
-// a - b, or 0 where b is larger.
+// What the first of two numbers exceeds the second by: 0 where it does not.
 pub fn saturating_sub(a: u64, b: u64) -> u64
     ensures { λ r. ⌜ r ≡ a - b ⌝ }
 {
-    if a < b {
+    if a <= b {
         return 0;
     }
     a - b

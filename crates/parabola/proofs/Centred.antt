@@ -10,7 +10,7 @@ use lib.IntN.{pos, negsuc}
 use Rattle.numbers.proofs.Congruences.{equals, flip, chain, plus, remainder, is-remainder}
 use Rattle.numbers.proofs.Integers.{gain, loss}
 use Rattle.geometry.specs.Segment.{residue}
-use Rattle.parabola.specs.Parabola.{Parabola, triangle, value-at, slope-at, Hard, Near, centred, spread, covering, continued, part-start, part-count, part, In-range, Divisible}
+use Rattle.parabola.specs.Parabola.{Parabola, triangle, value-at, slope-at, centred, spread, covering, continued, part-start, part-count, part, In-range, Divisible}
 use Rattle.parabola.specs.Promise.{Covers-by, Covering-correct, Covering-both-correct, Centred-correct}
 use Rattle.parabola.proofs.Values.{value-congruent, value-is, value-below}
 use Rattle.parabola.proofs.Coverings.{covering-correct}
@@ -56,11 +56,11 @@ module _ (p : Parabola) (range : In-range p) where
   unfolding centred slope-at
   same-slope x = refl
 
-  hard : (x : ℕ) → Hard (centred p) x ↔ Near p x
+  hard : (x : ℕ) → (value-at (centred p) x < centred p .window) ↔ ((value-at p x < p .window) ⊎ (p .unit - value-at p x < p .window))
   unfolding centred
   hard x =
       let r = raised-below (p .unit) (p .window) (value-at p x) (value-below p positive x) (range .window-within) in
-      (λ h. (h .0, r .0 (omega (arith, h .1, raised x))), λ n. (n .0, omega (arith, r .1 (n .1), raised x)))
+      (λ h. r .0 (omega (arith, h, raised x)), λ n. omega (arith, r .1 n, raised x))
 
   unchanged : p .window ≡ 0 → centred p ≡ p
   unfolding centred
@@ -105,12 +105,13 @@ module _ (p : Parabola) (range : In-range p) where
           start-falling = λ n e h. covers-centred .numbers .start-falling n e;
           count = refl;
           window = λ D d h. covers-centred .numbers .window D d ∙ omega arith;
-          unchanged = λ e. subst (λ q. Covers-by (p .unit) (p .value) (p .slope) (p .curve) (p .count) (p .window) (covering q)) (sym (unchanged e))
-              (covering-correct p positive (range .slope-below) .numbers);
+          unchanged = λ e. subst (λ (w : ℕ). Covers-by (p .unit) (p .value) (p .slope) (p .curve) (p .count) w (covering (centred p))) e
+              (subst (λ q. Covers-by (p .unit) (p .value) (p .slope) (p .curve) (p .count) (p .window) (covering q)) (sym (unchanged e))
+              (covering-correct p positive (range .slope-below) .numbers));
         };
         rising = λ n e x h. covers-centred .rising n e x h ∙ rw (raised x, same-spread) (once (value-at p x) (spread p - n * triangle x));
         falling = λ n e x. covers-centred .falling n e x ∙ rw (raised x) (once (value-at p x) (suc n * triangle x));
-        covers = λ x l n. covers-centred .covers x l (hard x .1 (l, n) .1);
+        covers = λ x l n. covers-centred .covers x l (hard x .1 n);
       }
 
   pub centred-correct : Centred-correct p

@@ -6,17 +6,12 @@ use native.Mathlib.Nat.{mod-lt, mod-le, mul-le-mul-left, le-of-lt}
 use native.Mathlib.Omega.{arith}
 use lib.IntN.{ℤ, pos, negsuc, natAbs}
 use Rattle.numbers.proofs.Congruences.{Congruent, equals, flip, chain, plus, times, cancel, remainder, opposite, is-remainder}
-use Rattle.numbers.proofs.Integers.{gain, loss, negated, mod-is}
+use Rattle.numbers.proofs.Integers.{gain, loss, negated, size-is, mod-is}
 use Rattle.geometry.specs.Segment.{residue}
 use Rattle.geometry.proofs.Laws.{residue-lt, residue-congruent}
 use Rattle.parabola.specs.Parabola.{Parabola, triangle, value-at, spread, covering-step, start-over, covering-start, covering-window, covering}
 use Rattle.parabola.specs.Promise.{Covering-correct}
 use Rattle.parabola.proofs.Values.{triangle-twice, triangle-grows, value-congruent}
-
--- an integer's size is what it adds and what it takes away
-size-is : (z : ℤ) → natAbs z ≡ gain z + loss z
-size-is (pos n) = omega arith
-size-is (negsuc n) = omega arith
 
 module _ (p : Parabola) where
   -- what the curve may still add at x, and what it has taken

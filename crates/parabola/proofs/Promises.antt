@@ -1,10 +1,11 @@
 -- All that is promised of a parabola. Assumes nothing.
 use mathlib.Core.Path.{refl}
 use Prim.Native.Nat.{_≤_, _<_}
+use lib.Dec.{ltb}
 use Rattle.numbers.specs.Lists.{count-if}
 use Rattle.numbers.specs.Promise.{Enumerates}
 use Rattle.numbers.proofs.Selections.{less, enumerates}
-use Rattle.parabola.specs.Parabola.{Parabola, triangle, value-at, slope-at, second-difference, is-hard, hard-list, Hard}
+use Rattle.parabola.specs.Parabola.{Parabola, triangle, value-at, slope-at, second-difference, is-hard, hard-list}
 use Rattle.parabola.specs.Promise.{Values-correct, Promised}
 use Rattle.parabola.proofs.Values.{triangle-twice, value-below, slope-below, second-below, value-first, slope-first, value-next, slope-next, value-continues, slope-continues}
 use Rattle.parabola.proofs.Coverings.{covering-correct}
@@ -32,7 +33,8 @@ values-correct p positive =
       slope-continues = slope-continues p positive;
     }
 
-hard-lists : (p : Parabola) → p .count ≤ 1048576 → Enumerates (Hard p) (count-if (is-hard p) (p .count) 0) (hard-list p)
+hard-lists : (p : Parabola) → p .count ≤ 1048576
+    → Enumerates (λ x. (x < p .count) × (value-at p x < p .window)) (count-if (λ x. ltb (value-at p x) (p .window)) (p .count) 0) (hard-list p)
 unfolding hard-list is-hard
 hard-lists p most = enumerates (is-hard p) (λ x. value-at p x < p .window) (p .count) most (λ x. less (value-at p x) (p .window))
 

@@ -1,10 +1,9 @@
 -- A parabola V(x) = (c0 + c1·x + s·x(x-1)/2) mod M over the arguments x below N, with a window w, in plain numbers (document 01: a domain's
--- values): which of its arguments are hard, which are near a multiple of M on either side (document 02, 2.1), the segment that covers it, and its
--- parts. Assumes nothing: these are definitions.
+-- values): which of its arguments are hard, on one side; the parabola that is hard where it is near a multiple of M on either side (document 02, 2.1);
+-- the segment that covers it; and its parts. Assumes nothing: these are definitions.
 use mathlib.Core.Path.{_≡_}
 use mathlib.Core.Bool.{Bool}
 use mathlib.Core.List.{List}
-use mathlib.Core.Logic.{_⊎_}
 use Prim.Native.Nat.{ℕ, _+_, _-_, _*_, _/_, _%_, _≤_, _<_, min}
 use lib.Dec.{ltb}
 use lib.IntN.{ℤ, pos, negsuc, natAbs, _+ℤ_, _*ℤ_}
@@ -56,12 +55,8 @@ Hard p x = (x < p .count) × (value-at p x < p .window)
 
 -- ---- both sides of a breakpoint
 
--- an argument is near that is below the count and whose distance to the nearest multiple of M is less than the window: V(x) < w or M - V(x) < w
-abbrev pub Near : Parabola → (x : ℕ) → Type 0
-Near p x = (x < p .count) × ((value-at p x < p .window) ⊎ (p .unit - value-at p x < p .window))
-
--- the parabola raised by w - 1, modulo M, with the window 2w - 1, or M where that is less: its hard arguments are the near ones. For a window of 0 both
--- differences are 0, and it is the parabola itself
+-- the parabola raised by w - 1, modulo M, with the window 2w - 1, or M where that is less: its hard arguments are those with V(x) < w or M - V(x) < w. Of a
+-- window of 0 both differences are 0: a value below M then stays as it is
 unfoldable pub centred : Parabola → Parabola
 centred p =
     record {

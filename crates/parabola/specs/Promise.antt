@@ -4,13 +4,14 @@ use mathlib.Core.Path.{_≡_}
 use mathlib.Core.List.{map}
 use mathlib.Core.Logic.{_↔_, _⊎_}
 use Prim.Native.Nat.{ℕ, suc, _+_, _-_, _*_, _/_, _%_, _≤_, _<_, min}
+use lib.Dec.{ltb}
 use lib.IntN.{ℤ, pos, negsuc, negℤ, natAbs, _+ℤ_, _*ℤ_}
 use Rattle.numbers.specs.Integers.{_modulo_}
 use Rattle.numbers.specs.Lists.{count-if, joined}
 use Rattle.numbers.specs.Promise.{Enumerates}
 use Rattle.geometry.specs.Segment.{Segment, residue}
 use Rattle.geometry.specs.Segment as segment
-use Rattle.parabola.specs.Parabola.{Parabola, triangle, value-at, slope-at, second-difference, is-hard, hard-list, Hard, Near, centred, spread, covering, continued, part-start, part-count, part, In-range, Divisible, line}
+use Rattle.parabola.specs.Parabola.{Parabola, triangle, value-at, slope-at, second-difference, hard-list, centred, spread, covering, continued, part-start, part-count, part, In-range, Divisible, line}
 
 -- ---- values
 
@@ -46,7 +47,8 @@ pub record Covers-by (M c0 c1 : ℕ) (s : ℤ) (N w : ℕ) (segment : Segment) :
   pub window : (D : ℕ) → 2 * D ≡ natAbs s * (N * (N - 1)) → segment .window ≡ min M (w + D)
 
 -- the covering segment of a parabola. Modulo M it lies above the values exactly by what the curve may still add to them, D at 0 and nothing at N, or by
--- what it has taken from them, nothing at 0 and D at N. Wherever a value below N is less than the window, the residue is less than the covering window
+-- what it has taken from them, nothing at 0 and D at N. Where the value at an argument below N is less than the window, the residue is less than the covering
+-- window
 pub record Covering-correct (p : Parabola) : Type 0 where
   pub numbers : Covers-by (p .unit) (p .value) (p .slope) (p .curve) (p .count) (p .window) (covering p)
   pub spread-is : 2 * spread p ≡ natAbs (p .curve) * (p .count * (p .count - 1))
@@ -66,10 +68,11 @@ pub record Covers-both-by (M c0 c1 : ℕ) (s : ℤ) (N w : ℕ) (segment : Segme
   pub start-falling : (n : ℕ) → s ≡ negsuc n → 1 ≤ w → segment .start ≡ (c0 + (w - 1)) % M
   pub count : segment .count ≡ N
   pub window : (D : ℕ) → 2 * D ≡ natAbs s * (N * (N - 1)) → 1 ≤ w → segment .window ≡ min M (2 * w - 1 + D)
-  pub unchanged : w ≡ 0 → Covers-by M c0 c1 s N w segment
+  pub unchanged : w ≡ 0 → Covers-by M c0 c1 s N 0 segment
 
--- a segment covers both sides of a parabola: it has those numbers; modulo M it lies above the values raised by w - 1 by what the curve may still add, or by
--- what it has taken; and wherever a value below N is less than w from a multiple of M, the residue is less than the segment's window
+-- a segment covers both sides of a parabola: it has those numbers; modulo M it lies above the values, raised by w - 1, by what the curve may still add, D at 0
+-- and nothing at N, or by what it has taken, nothing at 0 and D at N; and where the value at an argument below N is less than w from a multiple of M, the
+-- residue is less than the segment's window
 pub record Covering-both-correct (p : Parabola) (segment : Segment) : Type 0 where
   pub numbers : Covers-both-by (p .unit) (p .value) (p .slope) (p .curve) (p .count) (p .window) segment
   pub rising : (n : ℕ) → p .curve ≡ pos n → (x : ℕ) → x ≤ p .count
@@ -78,9 +81,9 @@ pub record Covering-both-correct (p : Parabola) (segment : Segment) : Type 0 whe
       → residue segment x ≡ (value-at p x + (p .window - 1) + suc n * triangle x) % p .unit
   pub covers : (x : ℕ) → x < p .count → (value-at p x < p .window) ⊎ (p .unit - value-at p x < p .window) → residue segment x < segment .window
 
--- the centred parabola is the same but for the value, which gains w - 1, modulo M, and the window, the smaller of M and 2w - 1. So do all values, and its
--- hard arguments are those near a multiple of M. Its covering segment covers both sides, and its parts are the parts, centred. For w of 0 it is the same
--- parabola
+-- the centred parabola is the same but for the window, the smaller of M and 2w - 1, and the values, which gain w - 1, modulo M. A value is then less than
+-- the window exactly where V(x) < w or M - V(x) < w. Its covering segment covers both sides, and its parts are the parts, centred. For w of 0 it is the
+-- parabola itself
 pub record Centred-correct (p : Parabola) : Type 0 where
   pub start : centred p .value ≡ (p .value + (p .window - 1)) % p .unit
   pub window : centred p .window ≡ min (p .unit) (2 * p .window - 1)
@@ -88,7 +91,7 @@ pub record Centred-correct (p : Parabola) : Type 0 where
   pub in-range : In-range (centred p)
   pub value : (x : ℕ) → value-at (centred p) x ≡ (value-at p x + (p .window - 1)) % p .unit
   pub slope : (x : ℕ) → slope-at (centred p) x ≡ slope-at p x
-  pub hard : (x : ℕ) → Hard (centred p) x ↔ Near p x
+  pub hard : (x : ℕ) → (value-at (centred p) x < centred p .window) ↔ ((value-at p x < p .window) ⊎ (p .unit - value-at p x < p .window))
   pub covering-both : Covering-both-correct p (covering (centred p))
   pub parts : (i : ℕ) → part (centred p) i ≡ centred (part p i)
   pub unchanged : p .window ≡ 0 → centred p ≡ p
@@ -123,7 +126,8 @@ pub record Line-correct (s : Segment) : Type 0 where
 
 pub record Promised : Type 0 where
   pub values : (p : Parabola) → 0 < p .unit → Values-correct p
-  pub hard-lists : (p : Parabola) → p .count ≤ 1048576 → Enumerates (Hard p) (count-if (is-hard p) (p .count) 0) (hard-list p)
+  pub hard-lists : (p : Parabola) → p .count ≤ 1048576
+      → Enumerates (λ x. (x < p .count) × (value-at p x < p .window)) (count-if (λ x. ltb (value-at p x) (p .window)) (p .count) 0) (hard-list p)
   pub coverings : (p : Parabola) → 0 < p .unit → p .slope < p .unit → Covering-correct p
   pub centred-correct : (p : Parabola) → In-range p → Centred-correct p
   pub parts : (p : Parabola) → Divisible p → Parts-correct p

@@ -1,24 +1,31 @@
 -- `arc::covering::covering_start` meets its contract. Assumes nothing.
 use native.Mathlib.Omega.{arith}
+use borrow.Author.Needs.{needs}
+use lib.IntN.{pos}
+use lib.Signed.{leZ}
+use Rattle.numbers.proofs.Signed.{read}
+use Rattle.numbers.proofs.Selections.{kept-most}
 use Rattle.parabola.proofs.Laws.{spread-most}
-use Rattle.arc.proofs.Arcs.{curve-kept, start-negative, start-rising}
+use Rattle.arc.proofs.Arcs.{curve-kept, start-risen}
 use Rattle.arc.proofs.covering.covering_start.Statement.{statement}
 use Rattle.arc.proofs.covering.covering_start.Tie as tie
 
-curve-negative : tie.Need-returns
-curve-negative c = let s = c .before .before .before in start-negative _ (rw (curve-kept (s .pre)) at (c .if1 .taken))
+rise-fits : tie.Need-mul-rise
+rise-fits c =
+    let at-spread = c .before .before in
+    record { fits = omega (arith, at-spread .spread .ensures, spread-most (at-spread .before .pre), kept-most (at-spread .spread .result) (leZ (pos 0) (read (at-spread .before .args .arc .curve)))) }
 
 sum-fits : tie.Need-add-reduce
 sum-fits c =
-    let at-spread = c .before in
-    let r = at-spread .before .before .before .before .pre in
-    record { fits = omega (arith, at-spread .spread .ensures, spread-most r, r .value-below, r .unit-within .1) }
+    let at-spread = c .before .before .before in
+    let r = at-spread .before .pre in
+    record { fits = omega (arith, at-spread .spread .ensures, spread-most r, kept-most (at-spread .spread .result) (leZ (pos 0) (read (at-spread .before .args .arc .curve))), r .value-below, r .unit-within .1) }
 
-curve-rising : tie.Need-returns-2
-curve-rising c =
-    let at-spread = c .before .before in
-    let s = at-spread .before .before .before .before in
-    rw (c .reduce .ensures, at-spread .spread .ensures) (start-rising _ (rw (curve-kept (s .pre)) at (at-spread .before .if1 .left)))
+returns : tie.Need-returns
+returns c =
+    let at-spread = c .before .before .before .before in
+    let r = at-spread .before .pre in
+    rw (c .reduce .ensures, at-spread .spread .ensures, curve-kept r) (start-risen r)
 
 pub covering-start-spec : {M : Type 1} → statement M
-covering-start-spec = tie.close (tie.spec curve-negative (λ c κs. c .before .before .before .pre) sum-fits (λ c κs. tt) curve-rising)
+covering-start-spec = tie.close (tie.spec (λ c κs. c .pre) (λ c. search needs) rise-fits sum-fits (λ c κs. tt) returns)
