@@ -7,7 +7,7 @@ use native.Mathlib.Decide.{decLe}
 use native.Mathlib.Omega.{arith}
 use lib.IntN.{ℤ, pos, subℕ, _+ℤ_, _*ℤ_}
 use Rattle.numbers.proofs.Congruences.{Congruent, flip, chain, cancel, same}
-use Rattle.numbers.proofs.Integers.{gain, loss, Difference, number, difference, sum, product, scaled, balanced, same-integer, size-below}
+use Rattle.numbers.proofs.Integers.{gain, loss, Difference, number, difference, sum, product, scaled, balanced, same-integer, size-below, split}
 use Rattle.geometry.specs.Segment.{Segment, residue}
 use Rattle.geometry.specs.Segment as geometry
 use Rattle.geometry.proofs.Laws.{residue-lt, residue-congruent}
@@ -20,10 +20,15 @@ use Rattle.domain.specs.Promise.{Hard-in-numbers, Near-a-multiple, Hard-
 use Rattle.domain.specs.declared.Domain.{Domain}
 
 module _ (d : Domain) (x : ℕ) where
-  -- twice the terms of V(x), and k times twice the modulus
+  -- twice the terms of V(x), and k times twice the modulus: what they add, and what they take away
+  abbrev added : (k : ℕ) → ℕ
+  added k = 2 * (d .value + d .slope * x) + gain (d .curve) * (x * (x - 1)) + k * (2 * d .modulus)
+
+  abbrev taken : (k : ℕ) → ℕ
+  taken k = 0 + loss (d .curve) * (x * (x - 1)) + k * (2 * d .modulus)
+
   doubled : {k : ℤ} {a b : ℕ} → Difference k a b
-      → Difference (pos (2 * (d .value + d .slope * x)) +ℤ d .curve *ℤ pos (x * (x - 1)) +ℤ k *ℤ pos (2 * d .modulus))
-      (2 * (d .value + d .slope * x) + gain (d .curve) * (x * (x - 1)) + a * (2 * d .modulus)) (0 + loss (d .curve) * (x * (x - 1)) + b * (2 * d .modulus))
+      → Difference (pos (2 * (d .value + d .slope * x)) +ℤ d .curve *ℤ pos (x * (x - 1)) +ℤ k *ℤ pos (2 * d .modulus)) (added a) (taken b)
   doubled p = sum (sum (number (2 * (d .value + d .slope * x))) (product (d .curve) (x * (x - 1)))) (scaled (2 * d .modulus) p)
 
   -- x(x-1) is twice the triangle
@@ -48,7 +53,7 @@ module _ (d : Domain) (x : ℕ) where
       from h =
           let v = h .1 .0 in
           let k = h .1 .3 .0 in
-          let e = balanced (h .1 .3 .1) (number (2 * v)) (doubled {k = k} {a = gain k} {b = loss k} (record { balance = refl })) in
+          let e = balanced (h .1 .3 .1) (number (2 * v)) (doubled (split k)) in
           let c : Congruent (d .modulus) (v + loss (d .curve) * triangle x) (d .value + d .slope * x + gain (d .curve) * triangle x)
           = record { over = loss k; under = gain k; equal = omega (arith, e, twice (gain (d .curve)), twice (loss (d .curve))) } in
           (h .0, subst (λ (u : ℕ). (u < d .window) ⊎ (d .modulus - u < d .window)) (value-is (parabola-of d) positive x (h .1 .1) c) (h .1 .2))
@@ -62,15 +67,9 @@ module _ (d : Domain) (x : ℕ) where
 
   -- ---- by the distance to a multiple
 
-  -- twice the terms of V(x) and k times twice the modulus: what they add, and what they take away
-  abbrev added : (k : ℕ) → ℕ
-  added k = 2 * (d .value + d .slope * x) + gain (d .curve) * (x * (x - 1)) + k * (2 * d .modulus)
-
-  abbrev taken : (k : ℕ) → ℕ
-  taken k = 0 + loss (d .curve) * (x * (x - 1)) + k * (2 * d .modulus)
-
-  -- a number below M that makes up the difference is the remainder
-  remainder-of : (v a b : ℕ) → v < d .modulus → (v < d .window) ⊎ (d .modulus - v < d .window) → x < d .count → 2 * v + taken b ≡ added a → Hard-in-numbers d x
+  -- a number below M that makes up the difference is V(x)
+  remainder-of : (v a b : ℕ) → v < d .modulus → (v < d .window) ⊎ (d .modulus - v < d .window) → x < d .count → 2 * v + taken b ≡ added a
+      → Hard-in-numbers d x
   remainder-of v a b low near below e =
       (below, (v, low, near, (subℕ a b, same-integer (number (2 * v)) (doubled (difference a b)) (omega (arith, e)))))
 
@@ -82,9 +81,9 @@ module _ (d : Domain) (x : ℕ) where
       to h =
           let v = h .1 .0 in
           let k = h .1 .3 .0 in
-          let e = balanced (h .1 .3 .1) (number (2 * v)) (doubled {k = k} {a = gain k} {b = loss k} (record { balance = refl })) in
+          let e = balanced (h .1 .3 .1) (number (2 * v)) (doubled (split k)) in
           ⊎-elim
-          (λ l. (h .0, (k, size-below (doubled {k = k} {a = gain k} {b = loss k} (record { balance = refl })) .1 (omega (arith, e, l), omega (arith, e, l)))))
+          (λ l. (h .0, (k, size-below (doubled (split k)) .1 (omega (arith, e, l), omega (arith, e, l)))))
           (λ l. (
             h .0,
             (subℕ (gain k) (suc (loss k)), size-below (doubled (difference (gain k) (suc (loss k)))) .1 (omega (arith, e, h .1 .1), omega (arith, e, l))),
@@ -94,13 +93,14 @@ module _ (d : Domain) (x : ℕ) where
       from : Near-a-multiple d x → Hard-in-numbers d x
       from h =
           let k = h .1 .0 in
-          let l = size-below (doubled {k = k} {a = gain k} {b = loss k} (record { balance = refl })) .0 (h .1 .1) in
+          let l = size-below (doubled (split k)) .0 (h .1 .1) in
           let even = twice (gain (d .curve)) in
           let even-taken = twice (loss (d .curve)) in
-          by-cases (decLe (taken (loss k)) (added (gain k)))
-          (λ m. remainder-of ((added (gain k) - taken (loss k)) / 2) (gain k) (loss k) (omega (arith, l .0)) (inl (omega (arith, l .0))) (h .0)
-          (omega (arith, even, even-taken)))
-          (λ m. remainder-of (d .modulus - (taken (loss k) - added (gain k)) / 2) (suc (gain k)) (loss k) (omega (arith, even, even-taken))
+          let up : ℕ = added (gain k) in
+          let down : ℕ = taken (loss k) in
+          by-cases (decLe down up)
+          (λ m. remainder-of ((up - down) / 2) (gain k) (loss k) (omega (arith, l .0)) (inl (omega (arith, l .0))) (h .0) (omega (arith, even, even-taken)))
+          (λ m. remainder-of (d .modulus - (down - up) / 2) (suc (gain k)) (loss k) (omega (arith, even, even-taken))
           (inr (omega (arith, l .1, even, even-taken))) (h .0) (omega (arith, l .1, even, even-taken)))
 
 -- of a segment

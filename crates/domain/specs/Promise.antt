@@ -51,13 +51,14 @@ Hard-in-numbers d x =
     × ((v : ℕ) × (v < d .modulus) × ((v < d .window) ⊎ (d .modulus - v < d .window))
     × ((k : ℤ) × (pos (2 * v) ≡ pos (2 * (d .value + d .slope * x)) +ℤ d .curve *ℤ pos (x * (x - 1)) +ℤ k *ℤ pos (2 * d .modulus))))
 
--- by distances: c0 + c1·x + s·x(x-1)/2 is less than w from some multiple of M, and so from the nearest. All is doubled here too
+-- by the distance: c0 + c1·x + s·x(x-1)/2 is less than w from some multiple of M, and so from the nearest one. All is doubled here too
 abbrev pub Near-a-multiple : Domain → (x : ℕ) → Type 0
 Near-a-multiple d x =
     (x < d .count)
     × ((k : ℤ) × (natAbs (pos (2 * (d .value + d .slope * x)) +ℤ d .curve *ℤ pos (x * (x - 1)) +ℤ k *ℤ pos (2 * d .modulus)) < 2 * d .window))
 
--- the same of a segment, on one side: below N, with an r below M and below w that differs from b - a·x by a multiple of M. With b below M that multiple is not negative
+-- what hard means for a segment, on one side: below N, with an r below M and below w that differs from b - a·x by a multiple of M. With b below M that
+-- multiple is not negative
 abbrev pub Hard-in-segment : (M a b N w x : ℕ) → Type 0
 Hard-in-segment M a b N w x = (x < N) × ((r : ℕ) × (r < M) × (r < w) × ((k : ℕ) × (r + a * x ≡ b + k * M)))
 

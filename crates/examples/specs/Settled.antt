@@ -1,4 +1,5 @@
--- Document 01's settled examples marked P, as document 02's requests leave them, and examples of those requests, as one statement with a field for each. Assumes nothing: these are statements.
+-- Document 01's settled examples marked P, as document 02's requests leave them, and examples of those requests, as one statement with a field for each.
+-- Assumes nothing: these are statements.
 use mathlib.Core.Path.{_≡_}
 use mathlib.Core.List.{List, [], _∷_}
 use Prim.Native.Nat.{ℕ, _≤_, _<_}

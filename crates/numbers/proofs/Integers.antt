@@ -25,6 +25,10 @@ loss (negsuc n) = suc n
 pub record Difference (z : ℤ) (a b : ℕ) : Type 0 where
   pub balance : gain z + b ≡ a + loss z
 
+-- an integer is what it adds less what it takes away
+pub split : (z : ℤ) → Difference z (gain z) (loss z)
+split z = record { balance = refl }
+
 pub number : (n : ℕ) → Difference (pos n) n 0
 number n = record { balance = refl }
 

@@ -6,10 +6,8 @@ use Prim.Native.Nat.{ℕ, suc, _+_, _-_, _*_, _%_, _≤_, _<_, min}
 use native.Mathlib.Nat.{mod-lt, mod-eq-of-lt, mod-add-mod}
 use native.Mathlib.Decide.{decLt}
 use native.Mathlib.Omega.{arith}
-use lib.IntN.{pos, negsuc}
 use Rattle.numbers.proofs.Congruences.{equals, flip, chain, plus, remainder, is-remainder}
 use Rattle.numbers.proofs.Integers.{gain, loss}
-use Rattle.geometry.specs.Segment.{residue}
 use Rattle.parabola.specs.Parabola.{Parabola, triangle, value-at, slope-at, centred, spread, covering, continued, part-start, part-count, part, In-range, Divisible}
 use Rattle.parabola.specs.Promise.{Covers-by, Covering-correct, Covering-both-correct, Centred-correct}
 use Rattle.parabola.proofs.Values.{value-congruent, value-is, value-below}
@@ -109,6 +107,7 @@ module _ (p : Parabola) (range : In-range p) where
               (subst (λ q. Covers-by (p .unit) (p .value) (p .slope) (p .curve) (p .count) (p .window) (covering q)) (sym (unchanged e))
               (covering-correct p positive (range .slope-below) .numbers));
         };
+        spread-is = covering-correct p positive (range .slope-below) .spread-is;
         rising = λ n e x h. covers-centred .rising n e x h ∙ rw (raised x, same-spread) (once (value-at p x) (spread p - n * triangle x));
         falling = λ n e x. covers-centred .falling n e x ∙ rw (raised x) (once (value-at p x) (suc n * triangle x));
         covers = λ x l n. covers-centred .covers x l (hard x .1 n);

@@ -55,8 +55,8 @@ Hard p x = (x < p .count) × (value-at p x < p .window)
 
 -- ---- both sides of a breakpoint
 
--- the parabola raised by w - 1, modulo M, with the window 2w - 1, or M where that is less: its hard arguments are those with V(x) < w or M - V(x) < w. Of a
--- window of 0 both differences are 0: a value below M then stays as it is
+-- the parabola raised by w - 1, modulo M, with the window 2w - 1, or M where that is less: its hard arguments are those with V(x) < w or M - V(x) < w. For
+-- a window of 0 both differences are 0, and a value below M stays as it is
 unfoldable pub centred : Parabola → Parabola
 centred p =
     record {

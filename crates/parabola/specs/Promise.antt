@@ -75,6 +75,7 @@ pub record Covers-both-by (M c0 c1 : ℕ) (s : ℤ) (N w : ℕ) (segment : Segme
 -- residue is less than the segment's window
 pub record Covering-both-correct (p : Parabola) (segment : Segment) : Type 0 where
   pub numbers : Covers-both-by (p .unit) (p .value) (p .slope) (p .curve) (p .count) (p .window) segment
+  pub spread-is : 2 * spread p ≡ natAbs (p .curve) * (p .count * (p .count - 1))
   pub rising : (n : ℕ) → p .curve ≡ pos n → (x : ℕ) → x ≤ p .count
       → residue segment x ≡ (value-at p x + (p .window - 1) + (spread p - n * triangle x)) % p .unit
   pub falling : (n : ℕ) → p .curve ≡ negsuc n → (x : ℕ)
