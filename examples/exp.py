@@ -19,7 +19,7 @@ job's polynomial differs from M·F(x) by at most
 
     err = r0 + r1·N + r2·N^2/2 + 2^(116+3e)·N^3/6  <=  1/2 + N/2 + N^2/4 + 2^(116+3e)·N^3/6.
 
-The window is eps·M + err and 1, with err rounded up: an argument is hard where the polynomial is less than that from a
+The window is eps·M + err + 1, with err rounded up: an argument is hard where the polynomial is less than that from a
 multiple of M, on either side. So every double whose exponential is within eps half ulps of a breakpoint is listed, and
 every listed one is within eps + 2·err/M.
 

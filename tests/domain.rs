@@ -436,7 +436,7 @@ fn parts_of_the_reference() -> Result<String, String> {
     Ok(format!("{values} values"))
 }
 
-/// Documents 01's and 02's examples that concern domains: cleared or not, the marks and the list.
+/// Document 01's examples that concern domains, as 02 leaves them, and some of 2.1: cleared or not, the marks and the list.
 fn settled_examples() -> Result<Tally, String> {
     let all_eight = [0, 1, 2, 3, 4, 5, 6, 7];
     let examples: [(&str, Domain, u64, [u8; 8], &[u32]); 7] = [

@@ -1,6 +1,6 @@
 /*
- * The header as a C program uses it: every function on the examples that document 01 settles, and on a few more, with canaries
- * around the caller's memory. The expected values are written by hand from document 01. Prints a line for each check and ends with
+ * The header as a C program uses it: every function on the examples that documents 01 and 02 settle, and on a few more, with canaries
+ * around the caller's memory. The expected values are written by hand from those documents. Prints a line for each check and ends with
  * 'N passed, M failed', and with status 0 only if M is 0.
  */
 #include "geyserdish.h"
@@ -396,10 +396,10 @@ static void check_domain(const char *example, struct domain d, const struct answ
 }
 
 /*
- * What the documents' examples leave open. With curve 0 the covering segment has the domain's values, raised by w - 1, as its residues:
- * it is clear for window 0 and possible for window M. So it is for a part with one argument. With value 1 and slope 0 the values are 1, 1, 2, 4, 7, .. for curve 1
- * and 1, 1, 0, 43, 40, .. for curve -1; with count 8 and window 1 the covering segment has step 0, window 1 + 28, and start 1 + 28 for
- * curve 1 but 1 for curve -1. With curve 1048576 or -1048576 its window is M.
+ * What the documents' examples leave open. With curve 0 the covering segment has the domain's values, raised by w - 1 (by nothing for
+ * window 0), as its residues: it is clear for window 0 and possible for window M. So it is for a part with one argument. With value 1
+ * and slope 0 the values are 1, 1, 2, 4, 7, .. for curve 1 and 1, 1, 0, 43, 40, .. for curve -1; with count 8 and window 1 the covering
+ * segment has step 0, window 1 + 28, and start 1 + 28 for curve 1 but 1 for curve -1. With curve 1048576 or -1048576 its window is M.
  */
 static void check_accepted_domains(void) {
     static const struct {

@@ -23,7 +23,8 @@ use texts::{J, LONGEST};
 
 const P11: Domain = Domain { modulus: 45, value: 0, slope: 0, curve: 1, count: 8, window: 1 };
 
-/// Every odd value once, -4,095 first at 2^20 - 4,096: from there on as many arguments are hard as there are places, of seven digits each.
+/// Every odd value once. -4,095 comes at argument 2^20 - 4,096, and from there on all arguments are hard: as many as there are places, of
+/// seven digits each.
 const LONGEST_LIST: Domain = Domain { modulus: 2 * MOST, value: 4097, slope: 2, curve: 0, count: MOST, window: 4096 };
 
 /// The bytes of the longest text and of the longest output.
@@ -172,7 +173,7 @@ fn all(program: &str, cases: &[Case]) -> Result<Tally, String> {
     Ok(Tally::of(cases))
 }
 
-/// Documents 01's and 02's examples that concern domains, and some others: printed by hand, and by the reference.
+/// Document 01's examples that concern domains, as 02 leaves them, some of 2.1 and others: printed by hand, and by the reference.
 fn settled_examples() -> Vec<Case> {
     let j = "modulus=45\nvalue=44\nslope=31\ncurve=0\ncount=16\nwindow=3\n";
     let p11 = "first=possible\nparts=22111111\nlisted=2\nargument=0\nargument=1\n";
@@ -349,7 +350,7 @@ fn printed_numbers_of_every_length() -> Vec<Case> {
         // Hard at the power and just before it.
         let (value, count) = ((2 * MOST + 1 - 2 * power) % (2 * MOST), power / 8 * 8 + 8);
         cases.push(job(Domain { value, count, window: 2, ..LONGEST_LIST }));
-        // With this window as many odd values are hard, or even ones for an odd number.
+        // An even window makes as many odd values hard, and an odd one as many even values.
         let listed = [power - 1, power, power + 1].into_iter().filter(|&listed| listed <= PLACES as u64);
         cases.extend(listed.map(|listed| {
             let value = 17 + listed % 2;

@@ -101,7 +101,7 @@ abbrev pub None-in-part : Domain → (i : ℕ) → Type 0
 None-in-part d i = (x : ℕ) → In-part d i x → Hard-in-numbers d x → ⊥
 
 -- phase 1's verdict is clear exactly where the regular search clears the covering segment, that is, where the distance is at least that segment's
--- window, and then no argument is hard; phase 2's verdict on a part is so by the fine search of the part's covering segment
+-- window, and then no argument is hard; phase 2's verdict on a part is likewise by the fine search of the part's covering segment
 pub record Phases-correct (d : Domain) : Type 0 where
   pub first-cleared : (verdict regular (covering-of d) ≡ Clear) ↔ Cleared-by regular (covering-of d)
   pub first-distance : (verdict regular (covering-of d) ≡ Clear) ↔ (covering-of d .window ≤ distance regular (covering-of d))

@@ -76,7 +76,7 @@ pub size-is : (z : ℤ) → natAbs z ≡ gain z + loss z
 size-is (pos n) = omega arith
 size-is (negsuc n) = omega arith
 
--- a - b is less than n in size exactly where neither of a and b exceeds the other by n
+-- a - b is less than n in size exactly where neither of a and b exceeds the other by n or more
 pub size-below : {z : ℤ} {a b n : ℕ} → Difference z a b → (natAbs z < n) ↔ ((a < b + n) × (b < a + n))
 size-below {z = pos m} d = (λ h. omega (arith, h, d .balance), λ h. omega (arith, h .0, h .1, d .balance))
 size-below {z = negsuc m} d = (λ h. omega (arith, h, d .balance), λ h. omega (arith, h .0, h .1, d .balance))

@@ -1,5 +1,5 @@
--- The centred parabola: its values are the values raised by w - 1, so that an argument is hard exactly where it is near a multiple of the modulus on
--- either side; it covers and parts as document 02 says. Assumes nothing.
+-- The centred parabola: its values are the values raised by w - 1, so that an argument is hard exactly where V(x) is near a multiple of the modulus on
+-- either side; its covering segment is document 02's, and its parts are the parts, centred. Assumes nothing.
 use mathlib.Core.Path.{_≡_, refl, sym, _∙_, ap, subst}
 use mathlib.Core.Logic.{_↔_, _⊎_, inl, inr, ⊎-elim, by-cases}
 use Prim.Native.Nat.{ℕ, suc, _+_, _-_, _*_, _%_, _≤_, _<_, min}
@@ -13,7 +13,7 @@ use Rattle.parabola.specs.Promise.{Covers-by, Covering-correct, Covering
 use Rattle.parabola.proofs.Values.{value-congruent, value-is, value-below}
 use Rattle.parabola.proofs.Coverings.{covering-correct}
 
--- a number v below M, raised by w - 1, is below 2w - 1 exactly where it is less than w from a multiple of M
+-- a number v below M, raised by w - 1 modulo M, is below the smaller of M and 2w - 1 exactly where it is less than w from a multiple of M
 raised-below : (M w v : ℕ) → v < M → w ≤ M → ((v + (w - 1)) % M < min M (2 * w - 1)) ↔ ((v < w) ⊎ (M - v < w))
 raised-below M w v low most =
     by-cases (decLt (v + (w - 1)) M)

@@ -1,6 +1,6 @@
 -- A parabola V(x) = (c0 + c1·x + s·x(x-1)/2) mod M over the arguments x below N, with a window w, in plain numbers (document 01: a domain's
--- values): which of its arguments are hard, on one side; the parabola that is hard where it is near a multiple of M on either side (document 02, 2.1);
--- the segment that covers it; and its parts. Assumes nothing: these are definitions.
+-- values): which of its arguments are hard, on one side; the parabola whose hard arguments are those near a multiple of M on either side (document 02,
+-- 2.1); the segment that covers it; and its parts. Assumes nothing: these are definitions.
 use mathlib.Core.Path.{_≡_}
 use mathlib.Core.Bool.{Bool}
 use mathlib.Core.List.{List}
@@ -55,7 +55,7 @@ Hard p x = (x < p .count) × (value-at p x < p .window)
 
 -- ---- both sides of a breakpoint
 
--- the parabola raised by w - 1, modulo M, with the window 2w - 1, or M where that is less: its hard arguments are those with V(x) < w or M - V(x) < w. For
+-- the parabola raised by w - 1, modulo M, with the window 2w - 1, or M where M is less: its hard arguments are those with V(x) < w or M - V(x) < w. For
 -- a window of 0 both differences are 0, and a value below M stays as it is
 unfoldable pub centred : Parabola → Parabola
 centred p =
