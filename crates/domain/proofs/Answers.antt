@@ -13,7 +13,7 @@ use mir.Val.{boolByte}
 use borrow.Author.Tests.{eq-eqb, ne-eqb}
 use Rattle.numbers.specs.Checklist.{first-failing, unless-refused}
 use Rattle.numbers.specs.Lists.{overwrite-front}
-use Rattle.numbers.proofs.Checklists.{accepts, accepted, refused, alike, first-of-two, second-of-two, neither-refuses}
+use Rattle.numbers.proofs.Checklists.{accepts, accepted, refused, alike, first-of-two, second-of-two, neither-refuses, refused-old}
 use Rattle.numbers.proofs.Selections.{kept-most}
 use Rattle.numbers.proofs.Buffers.{written-front}
 use Rattle.expansion.specs.Reached.Search.{regular}
@@ -149,7 +149,9 @@ module _ (d : Domain) (old-marks old : List ℕ) where
   -- a refusal before anything is searched
   pub domain-refused : {n : ℕ} → n ≡ refusal d → (n ≡ 0 → ⊥) → Answered d old-marks old (domain-variants.Refused n) old-marks old
   unfolding domain-answer marks-after list-after domain-number refusal
-  domain-refused {n} e h = rw (first-of-two (checks d) (room (hard-arguments d) (length old)) (sym e) h) (refused-with n (centred-of d) old-marks old h)
+  domain-refused {n} e h =
+      rw (first-of-two (checks d) (room (hard-arguments d) (length old)) (sym e) h)
+      (refused-with n (centred-of d) old-marks old h .0, (sym (refused-old n _ old-marks h), sym (refused-old n _ old h)))
 
   module _ (a : Accepted d) where
     -- an accepted one can be refused by 7 alone

@@ -21,11 +21,10 @@ use Rattle.segment.specs.Accepted as segment
 use Rattle.segment.specs.Search.{verdict}
 use Rattle.segment.specs.declared.Verdict.{Verdict}
 use Rattle.segment.specs.declared.Verdict.the-variants.{Clear}
-use Rattle.parabola.specs.Parabola.{Parabola, In-range, triangle, value-at, slope-at, is-hard, hard-list, Hard, centred, covering, continued, part-start, part-count, part}
+use Rattle.parabola.specs.Parabola.{Parabola, triangle, value-at, slope-at, is-hard, hard-list, Hard, centred, covering, continued, part-start, part-count, part}
 use Rattle.parabola.specs.Promise.{Covering-both-correct}
 use Rattle.parabola.proofs.Laws.{centred-divisible}
 use Rattle.parabola.proofs.Promises as parabola
-use Rattle.arc.proofs.Promises as arc
 use Rattle.domain.specs.Domain.{parabola-of, centred-of, hard-arguments, covering-of, part-covering, Accepted}
 use Rattle.domain.specs.Scan.{next-point}
 use Rattle.domain.specs.Answer.{domain-checks, domain-number, answer-with, domain-answer, marks-of, marks-after, list-after, domain-refusal, domain-first, domain-count, scan-checks, scan-number, scan-answer-with, scan-answer, scan-list-after, scan-refusal, scan-count}
@@ -35,7 +34,7 @@ use Rattle.domain.specs.declared.DomainAnswer.the-variants as domain-var
 use Rattle.domain.specs.declared.ScanAnswer.the-variants as scan-variants
 use Rattle.domain.proofs.Answers.{number-accepts, scan-accepts}
 use Rattle.domain.proofs.Numbers.{hard-by-numbers, nearest, hard-in-segment}
-use Rattle.domain.proofs.Verdicts.{arc-of, nothing-listed, phases-correct, marks-correct}
+use Rattle.domain.proofs.Verdicts.{covering-accepted, nothing-listed, searched-parts, phases-correct, marks-correct}
 
 parabola-correct : (d : Domain) → Parabola-correct d
 unfolding value-at triangle
@@ -57,10 +56,6 @@ hard-lists d a =
 
 -- ---- covering segments
 
--- the searches accept those of parabolas within the bounds
-accepted-covering : {p : Parabola} → In-range p → segment.Accepted (covering p)
-accepted-covering {p} r = arc.promised .arcs (arc-of p) .covering-accepted r
-
 coverings-correct : (d : Domain) → Accepted d → Coverings-correct d
 coverings-correct d a =
     let whole = parabola.promised .centred-correct (parabola-of d) (a .in-range) in
@@ -69,10 +64,10 @@ coverings-correct d a =
     = λ i. rw (whole .parts i) (parabola.promised .centred-correct (part (parabola-of d) i) (parts .in-range-of i) .covering-both) in
     record {
       whole = whole .covering-both .numbers;
-      whole-accepted = accepted-covering (whole .in-range);
+      whole-accepted = covering-accepted (whole .in-range);
       whole-covers = whole .covering-both;
       of-part = λ i h l e. unfold continued part-start part-count value-at slope-at triangle in rw e (covers i .numbers);
-      part-accepted = λ i l. accepted-covering (parabola.promised .parts (centred-of d) (centred-divisible a) .in-range-of i);
+      part-accepted = λ i l. covering-accepted (searched-parts a .in-range-of i);
       part-covers = λ i l. covers i;
     }
 
@@ -93,22 +88,19 @@ module _ (p : Parabola) where
   reports-with (suc k) v n = (λ e. absurd (let z : _≡_ {A = ℕ} 0 1 = cc in omega arith), λ h. absurd (omega (arith, h .0)))
 
 -- with a window of 0 nothing is listed
-none-listed : (d : Domain) → Accepted d → d .window ≡ 0 → hard-arguments d ≡ []
+no-window-no-list : (d : Domain) → Accepted d → d .window ≡ 0 → hard-arguments d ≡ []
 unfolding hard-list is-hard
-none-listed d a e =
+no-window-no-list d a e =
     ap hard-list (parabola.promised .centred-correct (parabola-of d) (a .in-range) .unchanged e)
     ∙ filter-empty (is-hard (parabola-of d)) (d .count) 0 (λ y l h. le-ltb (value-at (parabola-of d) y) (d .window) (omega arith))
 
 without-window : (d : Domain) → Accepted d → d .window ≡ 0 → Without-window d
 unfolding domain-answer
 without-window d a e =
-    let c = coverings-correct d a in
     record {
-      whole = c .whole .unchanged e;
-      of-part = λ i h l f. c .of-part i h l f .unchanged e;
       none-hard = λ x h. ⊎-elim (λ l. omega (arith, e, l)) (λ l. omega (arith, e, l)) (h .1 .2);
       answered = λ places.
-          let none : length (hard-arguments d) ≡ 0 = ap length (none-listed d a e) in
+          let none : length (hard-arguments d) ≡ 0 = ap length (no-window-no-list d a e) in
           reports-with (centred-of d) (domain-number d places) _ 0 .1 (number-accepts d places .1 (a, omega (arith, none)), refl, sym none);
     }
 
@@ -273,7 +265,7 @@ promised =
       accepted = λ d. (λ a. omega arith, λ h. omega arith);
       coverings = coverings-correct;
       parts = λ d a. parabola.promised .parts (parabola-of d) a;
-      centred-parts = λ d a. parabola.promised .parts (centred-of d) (centred-divisible a);
+      centred-parts = λ d a. searched-parts a;
       differences = λ p x positive. unfold next-point in
           let v = parabola.promised .values p positive in λ j. record { value = sym (v .differences x) j; slope = sym (v .slope-differences x) j };
       phases = λ d a. phases-correct a;

@@ -10,6 +10,7 @@ use Rattle.numbers.proofs.Equivalences.{through}
 use Rattle.numbers.proofs.Selections.{tabulate-length, tabulate-at}
 use Rattle.expansion.specs.Reached.{Search}
 use Rattle.expansion.specs.Reached.Search.{regular, fine}
+use Rattle.segment.specs.Accepted.{Accepted as Accepted-segment}
 use Rattle.segment.specs.Search.{verdict}
 use Rattle.segment.specs.Promise.{Verdicts-correct}
 use Rattle.segment.specs.declared.Verdict.{Verdict}
@@ -30,13 +31,17 @@ use Rattle.domain.proofs.Parts.{none-listed}
 use Rattle.domain.proofs.Numbers.{hard-by-numbers}
 
 -- the arc of a parabola
-abbrev pub arc-of : Parabola → Arc
+abbrev arc-of : Parabola → Arc
 arc-of p = record { modulus = p .unit; value = p .value; slope = p .slope; curve = p .curve; count = p .count; window = p .window }
 
--- what the searches promise of a covering segment
+-- the searches accept the covering segment of a parabola within the bounds
+pub covering-accepted : {p : Parabola} → In-range p → Accepted-segment (covering p)
+covering-accepted {p} range = arc.promised .arcs (arc-of p) .covering-accepted range
+
+-- what they promise of it
 verdicts : (k : Search) {p : Parabola} → In-range p
     → Verdicts-correct k (covering p .unit) (covering p .step) (covering p .start) (covering p .count) (covering p .window)
-verdicts k {p} range = segment.promised .verdicts k _ _ _ _ _ (arc.promised .arcs (arc-of p) .covering-accepted range)
+verdicts k {p} range = segment.promised .verdicts k _ _ _ _ _ (covering-accepted range)
 
 -- a search that clears the covering segment leaves no value below the window
 cleared : (k : Search) {p : Parabola} → In-range p → verdict k (covering p) ≡ Clear → (x : ℕ) → Hard p x → ⊥
@@ -49,8 +54,9 @@ module _ {d : Domain} (a : Accepted d) where
   whole : In-range (centred-of d)
   whole = centred-divisible a .in-range
 
-  parts : Parts-correct (centred-of d)
-  parts = parabola.promised .parts (centred-of d) (centred-divisible a)
+  -- the parts of the parabola that the phases search
+  pub searched-parts : Parts-correct (centred-of d)
+  searched-parts = parabola.promised .parts (centred-of d) (centred-divisible a)
 
   -- centred or not, a part has the same arguments
   same-part : (i : ℕ) → (part-start (centred-of d) i ≡ part-start (parabola-of d) i) × (part-count (centred-of d) i ≡ part-count (parabola-of d) i)
@@ -60,14 +66,14 @@ module _ {d : Domain} (a : Accepted d) where
   part-none : (i : ℕ) → verdict fine (part-covering d i) ≡ Clear → None-in-part d i
   part-none i e x l h =
       let y : part-start (centred-of d) i + (x - part-start (centred-of d) i) ≡ x = omega (arith, l .0, same-part i .0) in
-      cleared fine (parts .in-range-of i) e (x - part-start (centred-of d) i) (
-        omega (arith, l .0, l .1, parts .length-of i, same-part i .0, same-part i .1),
+      cleared fine (searched-parts .in-range-of i) e (x - part-start (centred-of d) i) (
+        omega (arith, l .0, l .1, searched-parts .length-of i, same-part i .0, same-part i .1),
         omega (
           arith,
           hard-by-numbers d x a .1 h .1,
           ap (value-at (centred-of d)) y,
-          parts .continues i (x - part-start (centred-of d) i),
-          parts .same i .2,
+          searched-parts .continues i (x - part-start (centred-of d) i),
+          searched-parts .same i .2,
         ),
       )
 
@@ -77,8 +83,8 @@ module _ {d : Domain} (a : Accepted d) where
         first-cleared = verdicts regular whole .answered;
         first-distance = verdicts regular whole .by-distance;
         first-none = λ e x h. cleared regular whole e x (hard-by-numbers d x a .1 h);
-        part-cleared = λ i. verdicts fine (parts .in-range-of i) .answered;
-        part-distance = λ i. verdicts fine (parts .in-range-of i) .by-distance;
+        part-cleared = λ i. verdicts fine (searched-parts .in-range-of i) .answered;
+        part-distance = λ i. verdicts fine (searched-parts .in-range-of i) .by-distance;
         part-none = part-none;
       }
 

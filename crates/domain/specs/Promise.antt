@@ -21,7 +21,7 @@ use Rattle.segment.specs.Promise as segment-promise
 use Rattle.segment.specs.declared.Verdict.{Verdict}
 use Rattle.segment.specs.declared.Verdict.the-variants.{Clear, Possible}
 use Rattle.parabola.specs.Parabola.{Parabola, value-at, slope-at, second-difference, part-start, part-count, part}
-use Rattle.parabola.specs.Promise.{Values-correct, Covers-by, Covers-both-by, Covering-both-correct, Centred-correct, Parts-correct}
+use Rattle.parabola.specs.Promise.{Values-correct, Covers-both-by, Covering-both-correct, Centred-correct, Parts-correct}
 use Rattle.domain.specs.Domain.{parabola-of, centred-of, hard-arguments, covering-of, part-covering, Accepted}
 use Rattle.domain.specs.Scan.{next-point}
 use Rattle.domain.specs.Answer.{domain-answer, marks-of, marks-after, list-after, domain-refusal, domain-first, domain-count, scan-answer, scan-list-after, scan-refusal, scan-count}
@@ -76,13 +76,9 @@ pub record Coverings-correct (d : Domain) : Type 0 where
   pub part-accepted : (i : ℕ) → i < 8 → segment.Accepted (part-covering d i)
   pub part-covers : (i : ℕ) → i < 8 → Covering-both-correct (part (parabola-of d) i) (part-covering d i)
 
--- for a window of 0 nothing changed: the covering segments of a domain and of its parts are those of document 01, nothing is hard, so that every list is
--- long enough, and phase 1's verdict is answered
+-- for a window of 0 nothing changed: the covering segments are those of document 01 (`Covers-both-by.unchanged`), nothing is hard, so that every list is long
+-- enough, and phase 1's verdict is answered
 pub record Without-window (d : Domain) : Type 0 where
-  pub whole : Covers-by (d .modulus) (d .value) (d .slope) (d .curve) (d .count) 0 (covering-of d)
-  pub of-part : (i h : ℕ) → i < 8 → h ≡ i * (d .count / 8)
-      → Covers-by (d .modulus) ((pos (d .value) +ℤ pos (d .slope) *ℤ pos h +ℤ d .curve *ℤ pos (h * (h - 1) / 2)) modulo d .modulus)
-      ((pos (d .slope) +ℤ d .curve *ℤ pos h) modulo d .modulus) (d .curve) (d .count / 8) 0 (part-covering d i)
   pub none-hard : (x : ℕ) → Hard-in-numbers d x → ⊥
   pub answered : (places : ℕ) → domain-answer d places ≡ domain-variants.Searched (verdict regular (covering-of d)) 0
 

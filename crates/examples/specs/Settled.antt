@@ -165,9 +165,9 @@ rising-arc = record { modulus = 45; value = 17; slope = 17; curve = pos 1; count
 abbrev pub falling-arc : Domain
 falling-arc = record { modulus = 45; value = 11; slope = 8; curve = negsuc 0; count = 8; window = 2 }
 
--- without a window
-abbrev pub closed : Domain
-closed = record { modulus = 45; value = 20; slope = 0; curve = pos 1; count = 8; window = 0 }
+-- with a window of 0
+abbrev pub no-window : Domain
+no-window = record { modulus = 45; value = 20; slope = 0; curve = pos 1; count = 8; window = 0 }
 
 pub record Both-sides : Type 0 where
   -- a window of 2 lists 2 and 6, whose values are 9 and 1; a window of 6 lists all
@@ -193,9 +193,9 @@ pub record Both-sides : Type 0 where
   pub falling-left : (x y : ℕ) → list-after falling-arc (x ∷ y ∷ []) ≡ 6 ∷ 7 ∷ []
   pub falling-covered : covering-of falling-arc ≡ segment 45 37 12 8 31
   -- by 01: the start is 20 + 28 modulo 45, and the window 28
-  pub without-window : domain-answer closed 0 ≡ domain-variants.Searched Possible 0
-  pub without-window-marks : (old : List ℕ) → marks-after closed 0 old ≡ 1 ∷ 1 ∷ 1 ∷ 1 ∷ 1 ∷ 1 ∷ 1 ∷ 1 ∷ []
-  pub without-window-covered : covering-of closed ≡ segment 45 0 3 8 28
+  pub without-window : domain-answer no-window 0 ≡ domain-variants.Searched Possible 0
+  pub without-window-marks : (old : List ℕ) → marks-after no-window 0 old ≡ 1 ∷ 1 ∷ 1 ∷ 1 ∷ 1 ∷ 1 ∷ 1 ∷ 1 ∷ []
+  pub without-window-covered : covering-of no-window ≡ segment 45 0 3 8 28
 
 -- all of them
 pub record Settled : Type 0 where

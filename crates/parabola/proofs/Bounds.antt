@@ -21,7 +21,7 @@ module _ {p : Parabola} (range : In-range p) where
 
   pub spread-most : spread p ≤ 576460752303423488
   unfolding spread
-  spread-most = arc-most (p .count) (range .count-high)
+  spread-most = arc-most _ (omega (arith, range .count-high))
 
   -- no list is longer than 2^20
   pub list-most : length (hard-list p) ≤ 1048576

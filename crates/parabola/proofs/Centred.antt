@@ -81,6 +81,9 @@ module _ (p : Parabola) (range : In-range p) where
 
   -- ---- the covering segment
 
+  covers-itself : Covering-correct p
+  covers-itself = covering-correct p positive (range .slope-below)
+
   covers-centred : Covering-correct (centred p)
   covers-centred = covering-correct (centred p) (omega (arith, within .value-below)) (within .slope-below)
 
@@ -105,9 +108,9 @@ module _ (p : Parabola) (range : In-range p) where
           window = λ D d h. covers-centred .numbers .window D d ∙ omega arith;
           unchanged = λ e. subst (λ (w : ℕ). Covers-by (p .unit) (p .value) (p .slope) (p .curve) (p .count) w (covering (centred p))) e
               (subst (λ q. Covers-by (p .unit) (p .value) (p .slope) (p .curve) (p .count) (p .window) (covering q)) (sym (unchanged e))
-              (covering-correct p positive (range .slope-below) .numbers));
+              (covers-itself .numbers));
         };
-        spread-is = covering-correct p positive (range .slope-below) .spread-is;
+        spread-is = covers-itself .spread-is;
         rising = λ n e x h. covers-centred .rising n e x h ∙ rw (raised x, same-spread) (once (value-at p x) (spread p - n * triangle x));
         falling = λ n e x. covers-centred .falling n e x ∙ rw (raised x) (once (value-at p x) (suc n * triangle x));
         covers = λ x l n. covers-centred .covers x l (hard x .1 n);

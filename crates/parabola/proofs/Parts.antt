@@ -4,7 +4,6 @@ use mathlib.Core.List.{map}
 use Prim.Native.Nat.{ℕ, suc, _+_, _*_, _/_, _≤_, _<_}
 use native.Mathlib.Nat.{add-zero, mod-lt, div-add-mod', mul-le-mul-right, le-antisymm, lt-of-not-le}
 use native.Mathlib.Omega.{arith}
-use lib.Dec.{ltb}
 use Rattle.numbers.specs.Lists.{filter-range, joined}
 use Rattle.numbers.proofs.Selections.{filter-shifted}
 use Rattle.numbers.proofs.Pieces.{pieces-filter}
@@ -73,7 +72,7 @@ module _ (p : Parabola) (d : Divisible p) where
       ∙ ap (filter-range (is-hard p) (part-count p i)) (add-zero (part-start p i))
     where
       same-test : (y : ℕ) → is-hard (part p i) y ≡ is-hard p (part-start p i + y)
-      same-test y = unfold is-hard continued in ap (λ (v : ℕ). ltb v (p .window)) (value-continues p positive (part-start p i) (part-count p i) y)
+      same-test y = unfold is-hard continued in rw (value-continues p positive (part-start p i) (part-count p i) y)
 
   lists : joined (λ i. map (λ (y : ℕ). part-start p i + y) (hard-list (part p i))) 8 0 ≡ hard-list p
   unfolding hard-list
