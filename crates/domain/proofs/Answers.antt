@@ -1,20 +1,16 @@
 -- What the calls answer and leave, from what their parts have found. Assumes nothing.
 use mathlib.Core.Path.{_≡_, refl, sym, _∙_, ap}
-use mathlib.Core.List.{List, [], _∷_, map}
-use mathlib.Core.Logic.{_↔_, inl, by-cases}
+use mathlib.Core.List.{List, [], _∷_, _++_, map}
+use mathlib.Core.Logic.{_↔_, inl, ⊎-elim, by-cases}
 use Prim.Native.Nat.{ℕ, zero, suc, _+_, _-_, _*_, _%_, _≤_, _<_}
 use native.Mathlib.Nat.{zero-add, mod-lt}
 use native.Mathlib.Decide.{ℕ-discrete}
 use native.Mathlib.Omega.{arith}
-use lib.Dec.{eqb}
 use lib.ListN.{length, replicate}
 use lib.Seq.{sets}
-use mir.Val.{boolByte}
-use borrow.Author.Tests.{eq-eqb, ne-eqb}
 use Rattle.numbers.specs.Checklist.{first-failing, unless-refused}
 use Rattle.numbers.specs.Lists.{overwrite-front}
-use Rattle.numbers.proofs.Checklists.{accepts, accepted, refused, alike, first-of-two, second-of-two, neither-refuses, refused-old}
-use Rattle.numbers.proofs.Selections.{kept-most}
+use Rattle.numbers.proofs.Checklists.{accepts, accepted, refused, gives, first-of-two, second-of-two, neither-refuses, refused-old}
 use Rattle.numbers.proofs.Buffers.{written-front}
 use Rattle.expansion.specs.Reached.Search.{regular}
 use Rattle.geometry.specs.Segment.{Segment}
@@ -23,13 +19,13 @@ use Rattle.segment.specs.Accepted as segment
 use Rattle.segment.specs.Search.{verdict}
 use Rattle.segment.specs.declared.Verdict.the-variants.{Clear, Possible}
 use Rattle.segment.proofs.Promises as segment-promises
-use Rattle.parabola.specs.Parabola.{Parabola, In-range, Divisible, hard-list, covering, line}
-use Rattle.parabola.proofs.Laws.{centred-divisible}
+use Rattle.parabola.specs.Parabola.{Parabola, In-range, hard-list, covering, line}
+use Rattle.parabola.proofs.Promises as parabola-promises
 use Rattle.arc.specs.Arc.{parabola, arc-verdict}
 use Rattle.arc.specs.Arc as arc
 use Rattle.arc.specs.declared.Arc.{Arc}
 use Rattle.arc.proofs.Promises as arc-promises
-use Rattle.domain.specs.Domain.{centred-of, hard-arguments, covering-of, checks, refusal, Accepted}
+use Rattle.domain.specs.Domain.{arc-of, parabola-of, centred-of, hard-arguments, covering-of, Accepted}
 use Rattle.domain.specs.Phases.{marks-by, marks, report}
 use Rattle.domain.specs.Answer.{room, domain-number, answer-with, domain-answer, marks-after, list-after, too-few, marks-with, list-with, scan-number, scan-answer-with}
 use Rattle.domain.specs.declared.Domain.{Domain}
@@ -42,55 +38,12 @@ use Rattle.domain.proofs.Parts.{none-listed}
 
 -- ---- which domains are accepted
 
-pub accepted-iff : (d : Domain) → (refusal d ≡ 0) ↔ Accepted d
-unfolding refusal
-accepted-iff d =
-    let r = accepts (checks d) (omega arith) in (
-      λ e. let h = r .0 e in
-          record {
-            in-range = record {
-              unit-within = h .0;
-              slope-below = h .1 .0;
-              value-below = h .1 .1 .0;
-              count-low = omega (arith, h .1 .1 .1 .0 .0);
-              count-high = h .1 .1 .1 .0 .1 .0;
-              window-within = h .1 .1 .1 .1 .0;
-              size-small = h .1 .1 .1 .1 .1 .0;
-            };
-            count-some = h .1 .1 .1 .0 .0;
-            count-eighths = h .1 .1 .1 .0 .1 .1;
-          },
-      λ a. let b = a .in-range in
-          r .1 (b .unit-within, (b .slope-below, (b .value-below, ((a .count-some, (b .count-high, a .count-eighths)), (b .window-within, (b .size-small, tt)))))),
-    )
+pub accepted-iff : (d : Domain) → (arc.refusal (arc-of d) ≡ 0) ↔ Accepted d
+accepted-iff d = arc-promises.promised .arcs (arc-of d) .accepted
 
--- the arc of a domain with another count
-abbrev pub counted : Domain → (count : ℕ) → Arc
-counted d n =
-    record { modulus = d .modulus; value = d .value; slope = d .slope; curve = d .curve; count = n; window = d .window }
-
--- a number, or 0 where it is no multiple of 8
-abbrev eighths : (n : ℕ) → ℕ
-eighths n = n * boolByte (eqb (n % 8) 0)
-
-pub eighths-most : (n : ℕ) → eighths n ≤ n
-eighths-most n = kept-most n (eqb (n % 8) 0)
-
-eighths-within : (n : ℕ) → ((1 ≤ eighths n) × (eighths n ≤ 1048576)) ↔ ((8 ≤ n) × ((n ≤ 1048576) × (n % 8 ≡ 0)))
-eighths-within n =
-    by-cases (ℕ-discrete (n % 8) 0)
-    (λ e. rw (eq-eqb (n % 8) 0 e) (λ h. (omega arith, (omega arith, e)), λ h. (omega arith, omega arith)))
-    (λ e. rw (ne-eqb (n % 8) 0 e) (λ h. absurd (omega (arith, h .0)), λ h. absurd (e (h .1 .1))))
-
-same : {P : Type 0} → P ↔ P
-same = (λ h. h, λ h. h)
-
--- the number that an arc gets which has 0 for its count where that is no multiple of 8
-pub as-arc : (d : Domain) → arc.refusal (counted d (eighths (d .count))) ≡ refusal d
-unfolding arc.refusal refusal
-as-arc d =
-    alike (arc.checks (counted d (eighths (d .count)))) (checks d)
-    (refl, (same, (refl, (same, (refl, (same, (refl, (eighths-within (d .count), (refl, (same, (refl, (same, tt))))))))))))
+-- the parabola that the phases search is within the bounds too
+pub searched-in-range : {d : Domain} → Accepted d → In-range (centred-of d)
+searched-in-range {d} a = parabola-promises.promised .centred-correct (parabola-of d) a .in-range
 
 -- 0 exactly where a list has places enough
 room-iff : (xs : List ℕ) (places : ℕ) → (first-failing (room xs places) ≡ 0) ↔ (length xs ≤ places)
@@ -99,10 +52,26 @@ room-iff xs places = let r = accepts (room xs places) (omega arith) in (λ e. r 
 pub number-accepts : (d : Domain) (places : ℕ) → (domain-number d places ≡ 0) ↔ (Accepted d × (length (hard-arguments d) ≤ places))
 unfolding domain-number
 number-accepts d places =
-    let r = neither-refuses (checks d) (room (hard-arguments d) places) (omega arith) in
+    let r = neither-refuses (arc.checks (arc-of d)) (room (hard-arguments d) places) (omega arith) in
     let m = room-iff (hard-arguments d) places in
     let a = accepted-iff d in
-    (λ e. let h = r .0 e in (a .0 (unfold refusal in h .0), m .0 (h .1)), λ h. r .1 (unfold refusal in a .1 (h .0), m .1 (h .1)))
+    (λ e. let h = r .0 e in (a .0 (unfold arc.refusal in h .0), m .0 (h .1)), λ h. r .1 (unfold arc.refusal in a .1 (h .0), m .1 (h .1)))
+
+-- of the numbers 1 to 5 it has the one that the segment with its slope for the step and its value for the start has
+pub number-as-segment : (d : Domain) (places n : ℕ) → 1 ≤ n → n ≤ 5
+    → (domain-number d places ≡ n) ↔ (segment.refusal (arc.line-of (arc-of d)) ≡ n)
+unfolding domain-number segment.refusal
+number-as-segment d places n low high =
+    let cs = segment.checks (arc.line-of (arc-of d)) in
+    let ds = arc.curve-checks (arc-of d) ++ room (hard-arguments d) places in
+    let same : arc.checks (arc-of d) ++ room (hard-arguments d) places ≡ cs ++ ds = refl in (
+      λ e. by-cases (ℕ-discrete (first-failing cs) 0)
+          (λ z. absurd
+          (⊎-elim (λ h. omega (arith, h .0)) (λ h. ⊎-elim (λ k. omega (arith, k .0)) (λ k. k .1) (h .1))
+          (gives ds (omega arith) n .0 (sym (second-of-two cs ds (accepts cs (omega arith) .0 z)) ∙ e, λ z. omega arith))))
+          (λ h. sym (first-of-two cs ds refl h) ∙ e),
+      λ e. first-of-two cs ds e (λ z. omega (arith, e, z)),
+    )
 
 pub scan-accepts : (s : Segment) (places : ℕ) → (scan-number s places ≡ 0) ↔ (segment.Accepted s × (length (geometry.hard-list s) ≤ places))
 unfolding scan-number
@@ -147,25 +116,25 @@ Answered d old-marks old answer new-marks new =
 
 module _ (d : Domain) (old-marks old : List ℕ) where
   -- a refusal before anything is searched
-  pub domain-refused : {n : ℕ} → n ≡ refusal d → (n ≡ 0 → ⊥) → Answered d old-marks old (domain-variants.Refused n) old-marks old
-  unfolding domain-answer marks-after list-after domain-number refusal
+  pub domain-refused : {n : ℕ} → n ≡ arc.refusal (arc-of d) → (n ≡ 0 → ⊥) → Answered d old-marks old (domain-variants.Refused n) old-marks old
+  unfolding domain-answer marks-after list-after domain-number arc.refusal
   domain-refused {n} e h =
-      rw (first-of-two (checks d) (room (hard-arguments d) (length old)) (sym e) h)
+      rw (first-of-two (arc.checks (arc-of d)) (room (hard-arguments d) (length old)) (sym e) h)
       (refused-with n (centred-of d) old-marks old h .0, (sym (refused-old n _ old-marks h), sym (refused-old n _ old h)))
 
   module _ (a : Accepted d) where
     -- an accepted one can be refused by 7 alone
     number-is : domain-number d (length old) ≡ too-few (centred-of d) (length old)
-    unfolding domain-number too-few refusal
+    unfolding domain-number too-few arc.refusal
     number-is =
-        second-of-two (checks d) (room (hard-arguments d) (length old)) (accepts (checks d) (omega arith) .0 (accepted-iff d .1 a))
+        second-of-two (arc.checks (arc-of d)) (room (hard-arguments d) (length old)) (accepts (arc.checks (arc-of d)) (omega arith) .0 (accepted-iff d .1 a))
 
     -- phase 1 clears it
     pub domain-cleared : {b : Arc} → parabola b ≡ centred-of d → arc-verdict regular b ≡ Clear
         → Answered d old-marks old (domain-variants.Searched Clear 0) (replicate 8 0) old
     unfolding domain-answer marks-after list-after too-few answer-with unless-refused marks-by overwrite-front
     domain-cleared {b} e c =
-        let r : In-range (parabola b) = rw e (centred-divisible a .in-range) in
+        let r : In-range (parabola b) = rw e (searched-in-range a) in
         let v : verdict regular (covering-of d) ≡ Clear
         = ap (λ (p : Parabola). verdict regular (covering p)) (sym e) ∙ sym (arc-promises.promised .arcs b .verdict-is regular r) ∙ c in
         let nothing : hard-arguments d ≡ [] = ap hard-list (sym e) ∙ none-listed regular b c in
@@ -173,10 +142,10 @@ module _ (d : Domain) (old-marks old : List ℕ) where
 
     -- or it does not
     pub searched-requires : {b : Arc} → parabola b ≡ centred-of d → arc-verdict regular b ≡ Possible
-        → Divisible (parabola b) × (verdict regular (covering (parabola b)) ≡ Possible)
+        → In-range (parabola b) × (verdict regular (covering (parabola b)) ≡ Possible)
     searched-requires {b} e c =
-        let r : In-range (parabola b) = rw e (centred-divisible a .in-range) in
-        (rw e (centred-divisible a), sym (arc-promises.promised .arcs b .verdict-is regular r) ∙ c)
+        let r : In-range (parabola b) = rw e (searched-in-range a) in
+        (r, sym (arc-promises.promised .arcs b .verdict-is regular r) ∙ c)
 
     -- phases 2 and 3 search it
     pub domain-searched : {p : Parabola} → p ≡ centred-of d → {answer : DomainAnswer} {new-marks new : List ℕ}

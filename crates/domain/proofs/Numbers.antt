@@ -62,8 +62,8 @@ module _ (d : Domain) (x : ℕ) where
   -- it is hard by the test of the parabola that the phases search
   pub hard-by-numbers : Accepted d → Hard (centred-of d) x ↔ Hard-in-numbers d x
   hard-by-numbers a =
-      let values = by-values (omega (arith, a .in-range .value-below)) in
-      let hard = promised .centred-correct (parabola-of d) (a .in-range) .hard x in
+      let values = by-values (omega (arith, a .value-below)) in
+      let hard = promised .centred-correct (parabola-of d) a .hard x in
       unfold centred in (λ h. values .0 (h .0, hard .0 (h .1)), λ h. let v = values .1 h in (v .0, hard .1 (v .1)))
 
   -- ---- by the distance to a multiple

@@ -1,15 +1,17 @@
 -- The eight parts, one after another: what has been found or listed of those before a part, and what is still to come, make up the whole.
 -- Assumes nothing.
-use mathlib.Core.Path.{_≡_, sym, _∙_, ap}
+use mathlib.Core.Path.{_≡_, refl, sym, _∙_, ap}
 use mathlib.Core.List.{List, [], map}
 use mathlib.Core.Logic.{by-cases}
-use Prim.Native.Nat.{ℕ, suc, _+_, _-_, _*_, _/_, _≤_, _<_}
-use native.Mathlib.Decide.{decLe}
+use Prim.Native.Nat.{ℕ, zero, suc, _+_, _-_, _≤_, _<_, min}
+use native.Mathlib.Decide.{decLe, decLt}
 use native.Mathlib.Omega.{arith}
 use native.Mathlib.Numerals.{add-one}
+use lib.Dec.{ltb}
 use lib.ListN.{length, set, replicate, length-map, length-append}
 use lib.Seq.{sets}
-use borrow.Author.Tests.{le-ltb}
+use mir.Val.{boolByte}
+use borrow.Author.Tests.{lt-ltb, le-ltb}
 use Rattle.numbers.specs.Lists.{tabulate, joined, overwrite-front}
 use Rattle.numbers.proofs.Lists.{no-entries}
 use Rattle.numbers.proofs.Signed.{read, curve-read}
@@ -19,40 +21,49 @@ use Rattle.numbers.proofs.Buffers.{Writing, begin, restate, write-one, write-li
 use Rattle.expansion.specs.Reached.{Search}
 use Rattle.expansion.specs.Reached.Search.{fine}
 use Rattle.segment.specs.Search.{verdict}
+use Rattle.segment.specs.declared.Verdict.{Verdict}
 use Rattle.segment.specs.declared.Verdict.the-variants.{Clear, Possible}
-use Rattle.parabola.specs.Parabola.{Parabola, In-range, Divisible, triangle, value-at, slope-at, is-hard, hard-list, covering, continued, part, part-start, part-count}
-use Rattle.parabola.proofs.Laws.{part-within}
+use Rattle.parabola.specs.Parabola.{Parabola, In-range, triangle, value-at, slope-at, is-hard, hard-list, covering, continued, part, part-start, part-count}
 use Rattle.parabola.proofs.Promises.{promised}
-use Rattle.domain.specs.Phases.{mark-of, part-mark, part-marks, part-count-hard, part-counts, part-report, report}
+use Rattle.domain.specs.Phases.{mark-of, mark-with, part-mark, part-marks, part-count-hard, part-counts, part-report, report}
 use Rattle.arc.specs.Arc.{parabola, point-answer, arc-verdict}
 use Rattle.arc.specs.declared.Arc.{Arc}
 use Rattle.arc.specs.declared.PointAnswer.the-variants.{Outside, At}
 use Rattle.arc.proofs.Promises as arc
 use Rattle.domain.specs.declared.phases.PartReport.{PartReport}
 
--- ---- where a part begins
+-- ---- where a part begins, and how long it is
 
-module _ (a : Arc) (d : Divisible (parabola a)) {i : ℕ} (h : i < 8) where
+-- a test as a number: one argument more for a part before the rest is used up
+pub one-more : (i rest : ℕ) → boolByte (ltb i rest) ≡ min 1 (rest - i)
+one-more i rest =
+    by-cases (decLt i rest) (λ l. rw (lt-ltb i rest l) (omega arith)) (λ l. rw (le-ltb i rest (omega arith)) (omega arith))
+
+-- no part begins after 2^20 arguments
+pub start-most : {N i : ℕ} → N ≤ 1048576 → i < 8 → part-start N i ≤ 1048576
+start-most {N} {i} most h = omega (arith, promised .eighths N .inside i h)
+
+module _ (a : Arc) (range : In-range (parabola a)) {i : ℕ} (h : i < 8) (some : 1 ≤ part-count (a .count) i) where
   -- at an argument
-  begins-below : i * (a .count / 8) < a .count
-  begins-below = unfold part-start part-count in omega (arith, part-within (d .in-range) i h, d .count-some)
+  begins-below : part-start (a .count) i < a .count
+  begins-below = omega (arith, promised .eighths (a .count) .inside i h, some)
 
-  pub begins-inside : point-answer a (i * (a .count / 8)) ≡ Outside → ⊥
-  begins-inside e = arc.promised .arcs a .outside _ .0 e (d .in-range) begins-below
+  pub begins-inside : point-answer a (part-start (a .count) i) ≡ Outside → ⊥
+  begins-inside e = arc.promised .arcs a .outside _ .0 e range begins-below
 
-  part-point : point-answer a (i * (a .count / 8)) ≡ At (part (parabola a) i .value) (part (parabola a) i .slope)
-  unfolding part-start value-at slope-at triangle continued
-  part-point = arc.promised .arcs a .inside (i * (a .count / 8)) (d .in-range) begins-below
+  part-point : point-answer a (part-start (a .count) i) ≡ At (part (parabola a) i .value) (part (parabola a) i .slope)
+  unfolding value-at slope-at triangle continued
+  part-point = arc.promised .arcs a .inside (part-start (a .count) i) range begins-below
 
   -- with its own value and slope
-  pub part-made : {v s : ℕ} → point-answer a (i * (a .count / 8)) ≡ At v s
-      → record { unit = a .modulus; value = v; slope = s; curve = read (a .curve); count = a .count / 8; window = a .window } ≡ part (parabola a) i
-  unfolding continued part-count
-  part-made {v} {s} e =
+  pub part-made : {v s n : ℕ} → point-answer a (part-start (a .count) i) ≡ At v s → n ≡ part-count (a .count) i
+      → record { unit = a .modulus; value = v; slope = s; curve = read (a .curve); count = n; window = a .window } ≡ part (parabola a) i
+  unfolding continued
+  part-made {v} {s} e l =
       let h = sym e ∙ part-point in
       let f : v ≡ part (parabola a) i .value = cc in
       let g : s ≡ part (parabola a) i .slope = cc in
-      rw (f, g, curve-read (a .curve) (d .in-range .size-small))
+      rw (f, g, l, curve-read (a .curve) (range .size-small))
 
 -- ---- one part
 
@@ -64,21 +75,36 @@ none-listed k a e =
     filter-empty (is-hard (parabola a)) (a .count) 0
     (λ y l h. by-cases (decLe (a .window) (value-at (parabola a) y)) (λ k. le-ltb (value-at (parabola a) y) (a .window) k) (λ k. absurd (c y (omega arith, omega arith))))
 
+-- its mark is 3 where it has no argument, and else by its verdict
+pub mark-empty : {n : ℕ} (v : Verdict) → n ≡ 0 → mark-with n v ≡ 3
+unfolding mark-with
+mark-empty v e = rw e refl
+
+pub mark-some : (n : ℕ) (v : Verdict) → 1 ≤ n → mark-with n v ≡ mark-of v
+unfolding mark-with
+mark-some zero v h = absurd (omega arith)
+mark-some (suc n) v h = refl
+
+-- what is found in a part without arguments
+pub empty-part : (p : Parabola) → In-range p → (i : ℕ) → part-count (p .count) i ≡ 0 → record { mark = 3; count = 0 } ≡ part-report (part p i)
+unfolding part-report continued
+empty-part p range i e = rw (mark-empty (verdict fine (covering (part p i))) e, promised .parts p range .nothing-listed i e)
+
 module _ (a : Arc) (range : In-range (parabola a)) where
-  verdict-is : verdict fine (covering (parabola a)) ≡ arc-verdict fine a
-  verdict-is = sym (arc.promised .arcs a .verdict-is fine range)
+  mark-is : {v : Verdict} → arc-verdict fine a ≡ v → mark-with (a .count) (verdict fine (covering (parabola a))) ≡ mark-of v
+  mark-is e = mark-some _ _ (range .count-low) ∙ ap mark-of (sym (arc.promised .arcs a .verdict-is fine range) ∙ e)
 
   pub clear-part : arc-verdict fine a ≡ Clear → record { mark = 1; count = 0 } ≡ part-report (parabola a)
   unfolding part-report mark-of
-  clear-part e = rw (verdict-is, e, none-listed fine a e)
+  clear-part e = rw (mark-is e, none-listed fine a e)
 
   pub possible-part : {n : ℕ} → arc-verdict fine a ≡ Possible → n ≡ length (hard-list (parabola a)) → record { mark = 2; count = n } ≡ part-report (parabola a)
   unfolding part-report mark-of
-  possible-part e h = rw (verdict-is, e, h)
+  possible-part e h = rw (mark-is e, h)
 
 -- what the part i lists, as arguments of the whole
 abbrev pub piece : Parabola → (i : ℕ) → List ℕ
-piece p i = map (λ (y : ℕ). part-start p i + y) (hard-list (part p i))
+piece p i = map (λ (y : ℕ). part-start (p .count) i + y) (hard-list (part p i))
 
 -- the part i and those after it
 abbrev pieces-from : Parabola → (i : ℕ) → List ℕ
@@ -86,7 +112,13 @@ pieces-from p i = joined (piece p) (8 - i) i
 
 module _ (p : Parabola) (i : ℕ) where
   pub piece-length : length (piece p i) ≡ length (hard-list (part p i))
-  piece-length = length-map (hard-list (part p i)) (λ (y : ℕ). part-start p i + y)
+  piece-length = length-map (hard-list (part p i)) (λ (y : ℕ). part-start (p .count) i + y)
+
+  -- a part with a hard argument has an argument
+  pub some-argument : In-range p → {n : ℕ} → n ≡ length (hard-list (part p i)) → (n ≡ 0 → ⊥) → 1 ≤ part-count (p .count) i
+  some-argument range e some =
+      by-cases (decLe 1 (part-count (p .count) i)) (λ h. h)
+      (λ h. absurd (some (e ∙ ap length (promised .parts p range .nothing-listed i (omega arith)))))
 
   -- a part without hard arguments lists nothing
   pub nothing-listed : (place : ℕ) (list : List ℕ) {n : ℕ} → n ≡ length (hard-list (part p i)) → n ≡ 0 → list ≡ sets list place (piece p i)
@@ -104,7 +136,7 @@ pub record Examining (p : Parabola) (marks counts : List ℕ) (total i : ℕ) : 
   pub counting : Writing (part-counts p) (replicate 8 0) 0 (tabulate (part-count-hard p) (8 - i) i) counts i
   pub to-come : total + length (pieces-from p i) ≡ length (hard-list p)
 
-pub examine-first : {p : Parabola} → Divisible p → Examining p (replicate 8 0) (replicate 8 0) 0 0
+pub examine-first : {p : Parabola} → In-range p → Examining p (replicate 8 0) (replicate 8 0) 0 0
 examine-first {p} d =
     record { within = omega arith; marking = begin _ _ 0; counting = begin _ _ 0; to-come = omega (arith, ap length (promised .parts p d .lists)) }
 
@@ -137,7 +169,7 @@ pub record Listing-parts (p : Parabola) (old list : List ℕ) (place i : ℕ) : 
   pub within : i ≤ 8
   pub writing : Writing (hard-list p) old 0 (pieces-from p i) list place
 
-pub list-first : {p : Parabola} (old : List ℕ) → Divisible p → Listing-parts p old old 0 0
+pub list-first : {p : Parabola} (old : List ℕ) → In-range p → Listing-parts p old old 0 0
 list-first {p} old d =
     record { within = omega arith; writing = restate (sym (promised .parts p d .lists)) (begin (hard-list p) old 0) }
 

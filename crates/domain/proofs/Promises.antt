@@ -21,9 +21,8 @@ use Rattle.segment.specs.Accepted as segment
 use Rattle.segment.specs.Search.{verdict}
 use Rattle.segment.specs.declared.Verdict.{Verdict}
 use Rattle.segment.specs.declared.Verdict.the-variants.{Clear}
-use Rattle.parabola.specs.Parabola.{Parabola, triangle, value-at, slope-at, is-hard, hard-list, Hard, centred, covering, continued, part-start, part-count, part}
+use Rattle.parabola.specs.Parabola.{Parabola, triangle, value-at, slope-at, is-hard, hard-list, Hard, centred, covering, continued, part-count, part}
 use Rattle.parabola.specs.Promise.{Covering-both-correct}
-use Rattle.parabola.proofs.Laws.{centred-divisible}
 use Rattle.parabola.proofs.Promises as parabola
 use Rattle.domain.specs.Domain.{parabola-of, centred-of, hard-arguments, covering-of, part-covering, Accepted}
 use Rattle.domain.specs.Scan.{next-point}
@@ -32,9 +31,9 @@ use Rattle.domain.specs.Promise.{Parabola-correct, Hard-in-numbers, Hard
 use Rattle.domain.specs.declared.Domain.{Domain}
 use Rattle.domain.specs.declared.DomainAnswer.the-variants as domain-variants
 use Rattle.domain.specs.declared.ScanAnswer.the-variants as scan-variants
-use Rattle.domain.proofs.Answers.{number-accepts, scan-accepts}
+use Rattle.domain.proofs.Answers.{searched-in-range, number-accepts, number-as-segment, scan-accepts}
 use Rattle.domain.proofs.Numbers.{hard-by-numbers, nearest, hard-in-segment}
-use Rattle.domain.proofs.Verdicts.{covering-accepted, nothing-listed, searched-parts, phases-correct, marks-correct}
+use Rattle.domain.proofs.Verdicts.{covering-accepted, nothing-listed, searched-parts, part-in-range, phases-correct, marks-correct}
 
 parabola-correct : (d : Domain) → Parabola-correct d
 unfolding value-at triangle
@@ -46,7 +45,7 @@ parabola-correct d =
 hard-lists : (d : Domain) → Accepted d → Enumerates (Hard-in-numbers d) (length (hard-arguments d)) (hard-arguments d)
 unfolding centred
 hard-lists d a =
-    let l = parabola.promised .hard-lists (centred-of d) (a .in-range .count-high) in
+    let l = parabola.promised .hard-lists (centred-of d) (a .count-high) in
     record {
       exactly = λ x. (λ m. hard-by-numbers d x a .0 (l .exactly x .0 m), λ h. l .exactly x .1 (hard-by-numbers d x a .1 h));
       ascending = l .ascending;
@@ -58,17 +57,17 @@ hard-lists d a =
 
 coverings-correct : (d : Domain) → Accepted d → Coverings-correct d
 coverings-correct d a =
-    let whole = parabola.promised .centred-correct (parabola-of d) (a .in-range) in
+    let whole = parabola.promised .centred-correct (parabola-of d) a in
     let parts = parabola.promised .parts (parabola-of d) a in
-    let covers : (i : ℕ) → Covering-both-correct (part (parabola-of d) i) (part-covering d i)
-    = λ i. rw (whole .parts i) (parabola.promised .centred-correct (part (parabola-of d) i) (parts .in-range-of i) .covering-both) in
+    let covers : (i : ℕ) → 1 ≤ part-count (d .count) i → Covering-both-correct (part (parabola-of d) i) (part-covering d i)
+    = λ i some. rw (whole .parts i) (parabola.promised .centred-correct (part (parabola-of d) i) (parts .in-range-of i some) .covering-both) in
     record {
       whole = whole .covering-both .numbers;
       whole-accepted = covering-accepted (whole .in-range);
       whole-covers = whole .covering-both;
-      of-part = λ i h l e. unfold continued part-start part-count value-at slope-at triangle in rw e (covers i .numbers);
-      part-accepted = λ i l. covering-accepted (searched-parts a .in-range-of i);
-      part-covers = λ i l. covers i;
+      of-part = λ i h n l e f some. unfold continued value-at slope-at triangle in rw (e, f) (covers i (omega (arith, f, some)) .numbers);
+      part-accepted = λ i l some. covering-accepted (part-in-range a i some);
+      part-covers = λ i l some. covers i some;
     }
 
 -- ---- domains
@@ -91,7 +90,7 @@ module _ (p : Parabola) where
 no-window-no-list : (d : Domain) → Accepted d → d .window ≡ 0 → hard-arguments d ≡ []
 unfolding hard-list is-hard
 no-window-no-list d a e =
-    ap hard-list (parabola.promised .centred-correct (parabola-of d) (a .in-range) .unchanged e)
+    ap hard-list (parabola.promised .centred-correct (parabola-of d) a .unchanged e)
     ∙ filter-empty (is-hard (parabola-of d)) (d .count) 0 (λ y l h. le-ltb (value-at (parabola-of d) y) (d .window) (omega arith))
 
 without-window : (d : Domain) → Accepted d → d .window ≡ 0 → Without-window d
@@ -138,7 +137,7 @@ module _ (d : Domain) (old-marks old : List ℕ) where
         hard = λ v n e. let r = reports v n .0 e in hard n (r .0) (r .2);
         ascends = λ v n e. let r = reports v n .0 e in
             let b = buffer (r .0) in
-            let l = parabola.promised .hard-lists (centred-of d) (centred-divisible (taken (r .0) .0) .in-range .count-high) in
+            let l = parabola.promised .hard-lists (centred-of d) (searched-in-range (taken (r .0) .0) .count-high) in
             λ i j h k. front-ascends b (l .ascending) i j h (omega (arith, r .2));
       }
     where
@@ -166,7 +165,7 @@ module _ (d : Domain) (old-marks old : List ℕ) where
 
       hard : (n : ℕ) → domain-number d (length old) ≡ 0 → n ≡ length (hard-arguments d) → Enumerates (Hard-in-numbers d) n (take n (list-after d old))
       hard n e f =
-          let l = parabola.promised .hard-lists (centred-of d) (centred-divisible (taken e .0) .in-range .count-high) in
+          let l = parabola.promised .hard-lists (centred-of d) (searched-in-range (taken e .0) .count-high) in
           let t : take n (list-after d old) ≡ hard-arguments d
           = ap₂ take f (searched-leaves e .1) ∙ front-taken (hard-arguments d) old in
           subst (Enumerates (Hard-in-numbers d) n) (sym t)
@@ -181,11 +180,21 @@ module _ (d : Domain) (old-marks old : List ℕ) where
           → (n ≡ 0) × (list-after d old ≡ old) × ((x : ℕ) → Hard-in-numbers d x → ⊥)
       cleared n r =
           let a = taken (r .0) .0 in
-          let z : hard-arguments d ≡ [] = nothing-listed regular (centred-divisible a .in-range) (sym (r .1)) in (
+          let z : hard-arguments d ≡ [] = nothing-listed regular (searched-in-range a) (sym (r .1)) in (
             r .2 ∙ ap length z,
             searched-leaves (r .0) .1 ∙ nothing-over old z,
             λ x h. phases-correct a .first-none (sym (r .1)) x h,
           )
+
+-- the number of a domain that is 1 to 5 is that of the segment: else the segment has 0, and what is asked after it has 6 or 7
+refused-as-segment : (d : Domain) (places n : ℕ) → 1 ≤ n → n ≤ 5
+    → (domain-answer d places ≡ domain-variants.Refused n)
+    ↔ (segment.refusal (segment.asked (d .modulus) (d .slope) (d .value) (d .count) (d .window)) ≡ n)
+unfolding domain-answer
+refused-as-segment d places n low high =
+    let r = refuses-with (centred-of d) (domain-number d places) n in
+    let m = number-as-segment d places n low high in
+    (λ e. m .0 (r .0 e .0), λ e. r .1 (m .1 e, λ z. omega arith))
 
 -- ---- scans
 
@@ -258,17 +267,19 @@ promised =
     record {
       parabolas = parabola-correct;
       values = λ d positive. parabola.promised .values (parabola-of d) positive;
-      centred = λ d a. parabola.promised .centred-correct (parabola-of d) (a .in-range);
-      nearest = λ d a x. nearest d x (a .in-range .window-within);
+      centred = λ d a. parabola.promised .centred-correct (parabola-of d) a;
+      nearest = λ d a x. nearest d x (a .window-within);
       hard-lists = hard-lists;
       without-window = without-window;
       accepted = λ d. (λ a. omega arith, λ h. omega arith);
       coverings = coverings-correct;
+      eighths = λ d. parabola.promised .eighths (d .count);
       parts = λ d a. parabola.promised .parts (parabola-of d) a;
       centred-parts = λ d a. searched-parts a;
       differences = λ p x positive. unfold next-point in
           let v = parabola.promised .values p positive in λ j. record { value = sym (v .differences x) j; slope = sym (v .slope-differences x) j };
       phases = λ d a. phases-correct a;
+      refused-as-segment = refused-as-segment;
       domains = domain-correct;
       scans = λ M a b N w old. unfold scan-answer scan-list-after in scan-correct (segment.asked M a b N w) old;
       domain-numbers = λ v n. unfold domain-refusal domain-count domain-first in (refl, refl, refl, refl, refl, refl);

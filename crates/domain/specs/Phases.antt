@@ -1,6 +1,6 @@
 -- What the phases find in a parabola: the marks of its parts, and how many hard arguments each has. Assumes nothing: these are definitions.
 use mathlib.Core.List.{List}
-use Prim.Native.Nat.{ℕ}
+use Prim.Native.Nat.{ℕ, zero, suc}
 use lib.ListN.{length, replicate}
 use Rattle.numbers.specs.Lists.{tabulate}
 use Rattle.expansion.specs.Reached.Search.{regular, fine}
@@ -16,9 +16,17 @@ unfoldable pub mark-of : Verdict → ℕ
 mark-of Clear = 1
 mark-of Possible = 2
 
--- phase 2: the fine search of each part's covering segment
+-- and 3 where it has no argument
+unfoldable pub mark-with : (count : ℕ) → Verdict → ℕ
+mark-with zero v = 3
+mark-with (suc n) v = mark-of v
+
+-- phase 2: the fine search of a part's covering segment. The part is a parabola of its own
+abbrev pub mark-by-fine : Parabola → ℕ
+mark-by-fine q = mark-with (q .count) (verdict fine (covering q))
+
 abbrev pub part-mark : Parabola → (i : ℕ) → ℕ
-part-mark p i = mark-of (verdict fine (covering (part p i)))
+part-mark p i = mark-by-fine (part p i)
 
 abbrev pub part-marks : Parabola → List ℕ
 part-marks p = tabulate (part-mark p) 8 0
@@ -43,7 +51,7 @@ part-counts p = tabulate (part-count-hard p) 8 0
 
 -- of one, given as a parabola of its own
 unfoldable pub part-report : Parabola → PartReport
-part-report q = record { mark = mark-of (verdict fine (covering q)); count = length (hard-list q) }
+part-report q = record { mark = mark-by-fine q; count = length (hard-list q) }
 
 -- of all
 unfoldable pub report : Parabola → Report

@@ -21,7 +21,7 @@ use Rattle.segment.specs.Promise as segment-promise
 use Rattle.segment.specs.declared.Verdict.{Verdict}
 use Rattle.segment.specs.declared.Verdict.the-variants.{Clear, Possible}
 use Rattle.parabola.specs.Parabola.{Parabola, value-at, slope-at, second-difference, part-start, part-count, part}
-use Rattle.parabola.specs.Promise.{Values-correct, Covers-both-by, Covering-both-correct, Centred-correct, Parts-correct}
+use Rattle.parabola.specs.Promise.{Values-correct, Covers-both-by, Covering-both-correct, Centred-correct, Eighths-correct, Parts-correct}
 use Rattle.domain.specs.Domain.{parabola-of, centred-of, hard-arguments, covering-of, part-covering, Accepted}
 use Rattle.domain.specs.Scan.{next-point}
 use Rattle.domain.specs.Answer.{domain-answer, marks-of, marks-after, list-after, domain-refusal, domain-first, domain-count, scan-answer, scan-list-after, scan-refusal, scan-count}
@@ -64,17 +64,17 @@ Hard-in-segment M a b N w x = (x < N) × ((r : ℕ) × (r < M) × (r < w) × ((k
 
 -- ---- the covering segments
 
--- the covering segments of a domain and of its parts, on both sides and in the call's own numbers: the part i begins at h = i·(N/8), and has value V(h), slope
--- (c1 + s·h) mod M and N/8 arguments. The searches accept them
+-- the covering segments of a domain and of its parts, on both sides and in the call's own numbers: a part that begins at h and has n arguments (`Eighths-correct`)
+-- has the value V(h) and the slope (c1 + s·h) mod M. The searches accept them where there is an argument
 pub record Coverings-correct (d : Domain) : Type 0 where
   pub whole : Covers-both-by (d .modulus) (d .value) (d .slope) (d .curve) (d .count) (d .window) (covering-of d)
   pub whole-accepted : segment.Accepted (covering-of d)
   pub whole-covers : Covering-both-correct (parabola-of d) (covering-of d)
-  pub of-part : (i h : ℕ) → i < 8 → h ≡ i * (d .count / 8)
+  pub of-part : (i h n : ℕ) → i < 8 → h ≡ part-start (d .count) i → n ≡ part-count (d .count) i → 1 ≤ n
       → Covers-both-by (d .modulus) ((pos (d .value) +ℤ pos (d .slope) *ℤ pos h +ℤ d .curve *ℤ pos (h * (h - 1) / 2)) modulo d .modulus)
-      ((pos (d .slope) +ℤ d .curve *ℤ pos h) modulo d .modulus) (d .curve) (d .count / 8) (d .window) (part-covering d i)
-  pub part-accepted : (i : ℕ) → i < 8 → segment.Accepted (part-covering d i)
-  pub part-covers : (i : ℕ) → i < 8 → Covering-both-correct (part (parabola-of d) i) (part-covering d i)
+      ((pos (d .slope) +ℤ d .curve *ℤ pos h) modulo d .modulus) (d .curve) n (d .window) (part-covering d i)
+  pub part-accepted : (i : ℕ) → i < 8 → 1 ≤ part-count (d .count) i → segment.Accepted (part-covering d i)
+  pub part-covers : (i : ℕ) → i < 8 → 1 ≤ part-count (d .count) i → Covering-both-correct (part (parabola-of d) i) (part-covering d i)
 
 -- for a window of 0 nothing changed: the covering segments are those of document 01 (`Covers-both-by.unchanged`), nothing is hard, so that every list is long
 -- enough, and phase 1's verdict is answered
@@ -90,30 +90,34 @@ Cleared-by k s = segment-promise.Cleared k (s .unit) (s .step) (s .start) (s .co
 
 -- an argument is in the part i
 abbrev pub In-part : Domain → (i x : ℕ) → Type 0
-In-part d i x = (part-start (parabola-of d) i ≤ x) × (x < part-start (parabola-of d) i + part-count (parabola-of d) i)
+In-part d i x = (part-start (d .count) i ≤ x) × (x < part-start (d .count) i + part-count (d .count) i)
 
 -- no argument of the part i is hard
 abbrev pub None-in-part : Domain → (i : ℕ) → Type 0
 None-in-part d i = (x : ℕ) → In-part d i x → Hard-in-numbers d x → ⊥
 
 -- phase 1's verdict is clear exactly where the regular search clears the covering segment, that is, where the distance is at least that segment's
--- window, and then no argument is hard; phase 2's verdict on a part is likewise by the fine search of the part's covering segment
+-- window, and then no argument is hard; phase 2's verdict on a part with arguments is likewise by the fine search of the part's covering segment
 pub record Phases-correct (d : Domain) : Type 0 where
   pub first-cleared : (verdict regular (covering-of d) ≡ Clear) ↔ Cleared-by regular (covering-of d)
   pub first-distance : (verdict regular (covering-of d) ≡ Clear) ↔ (covering-of d .window ≤ distance regular (covering-of d))
   pub first-none : verdict regular (covering-of d) ≡ Clear → (x : ℕ) → Hard-in-numbers d x → ⊥
-  pub part-cleared : (i : ℕ) → (verdict fine (part-covering d i) ≡ Clear) ↔ Cleared-by fine (part-covering d i)
-  pub part-distance : (i : ℕ) → (verdict fine (part-covering d i) ≡ Clear) ↔ (part-covering d i .window ≤ distance fine (part-covering d i))
-  pub part-none : (i : ℕ) → verdict fine (part-covering d i) ≡ Clear → None-in-part d i
+  pub part-cleared : (i : ℕ) → 1 ≤ part-count (d .count) i → (verdict fine (part-covering d i) ≡ Clear) ↔ Cleared-by fine (part-covering d i)
+  pub part-distance : (i : ℕ) → 1 ≤ part-count (d .count) i
+      → (verdict fine (part-covering d i) ≡ Clear) ↔ (part-covering d i .window ≤ distance fine (part-covering d i))
+  pub part-none : (i : ℕ) → 1 ≤ part-count (d .count) i → verdict fine (part-covering d i) ≡ Clear → None-in-part d i
 
--- the eight marks: all 0 where phase 1 clears the domain; else 1 where the part is clear, and then no argument of it is hard, or 2 where it is
--- possible: every hard argument is in a part marked 2
+-- the eight marks: 0 exactly where phase 1 clears the domain, and so all of them. Where it does not, 3 exactly where the part has no argument, and of the others 1
+-- exactly where the part is clear, and then no argument of it is hard, 2 exactly where it is possible: every hard argument is in a part marked 2
 pub record Marks-correct (d : Domain) (first : Verdict) (marks : List ℕ) : Type 0 where
   pub eight : length marks ≡ 8
-  pub at-most-2 : (i : ℕ) → getD marks i 0 ≤ 2
-  pub not-looked-at : first ≡ Clear → (i : ℕ) → i < 8 → getD marks i 0 ≡ 0
-  pub clear : first ≡ Possible → (i : ℕ) → i < 8 → (getD marks i 0 ≡ 1) ↔ (verdict fine (part-covering d i) ≡ Clear)
-  pub possible : first ≡ Possible → (i : ℕ) → i < 8 → (getD marks i 0 ≡ 2) ↔ (verdict fine (part-covering d i) ≡ Possible)
+  pub at-most-3 : (i : ℕ) → getD marks i 0 ≤ 3
+  pub not-looked-at : (i : ℕ) → i < 8 → (getD marks i 0 ≡ 0) ↔ (first ≡ Clear)
+  pub clear : (i : ℕ) → i < 8
+      → (getD marks i 0 ≡ 1) ↔ ((first ≡ Possible) × (1 ≤ part-count (d .count) i) × (verdict fine (part-covering d i) ≡ Clear))
+  pub possible : (i : ℕ) → i < 8
+      → (getD marks i 0 ≡ 2) ↔ ((first ≡ Possible) × (1 ≤ part-count (d .count) i) × (verdict fine (part-covering d i) ≡ Possible))
+  pub empty : (i : ℕ) → i < 8 → (getD marks i 0 ≡ 3) ↔ ((first ≡ Possible) × (part-count (d .count) i ≡ 0))
   pub none-hard : (i : ℕ) → i < 8 → getD marks i 0 ≡ 1 → None-in-part d i
   pub hard-in-2 : first ≡ Possible → (i : ℕ) → i < 8 → (x : ℕ) → In-part d i x → Hard-in-numbers d x → getD marks i 0 ≡ 2
 
@@ -125,7 +129,7 @@ Asked d places =
     condition 1 ((2 ≤ d .modulus) × (d .modulus ≤ 2 ^ 62))
     ∷ condition 2 (d .slope < d .modulus)
     ∷ condition 3 (d .value < d .modulus)
-    ∷ condition 4 ((8 ≤ d .count) × ((d .count ≤ 1048576) × (d .count % 8 ≡ 0)))
+    ∷ condition 4 ((1 ≤ d .count) × (d .count ≤ 1048576))
     ∷ condition 5 (d .window ≤ d .modulus)
     ∷ condition 6 (natAbs (d .curve) ≤ 1048576)
     ∷ condition 7 (length (hard-arguments d) ≤ places)
@@ -185,8 +189,8 @@ pub record Promised : Type 0 where
   -- a domain is accepted exactly where its six numbers are within 01's bounds
   pub accepted : (d : Domain)
       → Accepted d
-      ↔ ((2 ≤ d .modulus) × (d .modulus ≤ 2 ^ 62) × (d .slope < d .modulus) × (d .value < d .modulus) × (8 ≤ d .count) × (d .count ≤ 1048576)
-      × (d .count % 8 ≡ 0) × (d .window ≤ d .modulus) × (natAbs (d .curve) ≤ 1048576))
+      ↔ ((2 ≤ d .modulus) × (d .modulus ≤ 2 ^ 62) × (d .slope < d .modulus) × (d .value < d .modulus) × (1 ≤ d .count) × (d .count ≤ 1048576)
+      × (d .window ≤ d .modulus) × (natAbs (d .curve) ≤ 1048576))
   pub values : (d : Domain) → 0 < d .modulus → Values-correct (parabola-of d)
   -- the parabola that the phases search has the values raised by w - 1 and a window for both sides
   pub centred : (d : Domain) → Accepted d → Centred-correct (parabola-of d)
@@ -195,7 +199,8 @@ pub record Promised : Type 0 where
   pub hard-lists : (d : Domain) → Accepted d → Enumerates (Hard-in-numbers d) (length (hard-arguments d)) (hard-arguments d)
   pub without-window : (d : Domain) → Accepted d → d .window ≡ 0 → Without-window d
   pub coverings : (d : Domain) → Accepted d → Coverings-correct d
-  -- the parts of a domain; and those of the parabola that the phases search, whose lists make up the list of the domain
+  -- where parts begin and how long they are; the parts of a domain; and those of the parabola that the phases search, whose lists make up the list of the domain
+  pub eighths : (d : Domain) → Eighths-correct (d .count)
   pub parts : (d : Domain) → Accepted d → Parts-correct (parabola-of d)
   pub centred-parts : (d : Domain) → Accepted d → Parts-correct (centred-of d)
   -- a scan goes from the value and the slope at x to those at x + 1
@@ -203,6 +208,10 @@ pub record Promised : Type 0 where
       → next-point (second-difference p) (p .unit) (record { value = value-at p x; slope = slope-at p x })
       ≡ record { value = value-at p (suc x); slope = slope-at p (suc x) }
   pub phases : (d : Domain) → Accepted d → Phases-correct d
+  -- by 1 to 5 a domain is refused exactly as the segment with its slope for the step and its value for the start
+  pub refused-as-segment : (d : Domain) (places n : ℕ) → 1 ≤ n → n ≤ 5
+      → (domain-answer d places ≡ domain-variants.Refused n)
+      ↔ (segment.refusal (segment.asked (d .modulus) (d .slope) (d .value) (d .count) (d .window)) ≡ n)
   pub domains : (d : Domain) (old-marks old : List ℕ)
       → Domain-correct d old-marks old (domain-answer d (length old)) (marks-after d (length old) old-marks) (list-after d old)
   pub scans : (M a b N w : ℕ) (old : List ℕ)

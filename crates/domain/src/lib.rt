@@ -6,9 +6,9 @@ ghost use lib.ListN.{length};
 ghost use Rattle.expansion.specs.Reached.Search.{regular};
 ghost use Rattle.segment.specs.Search.{verdict};
 ghost use Rattle.segment.specs.declared.Verdict.the-variants.{Possible};
-ghost use Rattle.parabola.specs.Parabola.{Divisible, covering};
-ghost use Rattle.arc.specs.Arc.{parabola};
-ghost use Rattle.domain.specs.Domain.{centred-of, refusal, Accepted};
+ghost use Rattle.parabola.specs.Parabola.{In-range, covering};
+ghost use Rattle.arc.specs.Arc.{parabola, refusal};
+ghost use Rattle.domain.specs.Domain.{arc-of, centred-of, Accepted};
 ghost use Rattle.domain.specs.Answer.{too-few, answer-with, marks-with, list-with, domain-answer, marks-after, list-after, scan-answer, scan-list-after};
 
 mod phases;
@@ -84,11 +84,12 @@ pub fn scan_segment(
 }
 
 // Searches a domain in three phases: the whole of it; if that is possible, each of eight parts; and all arguments of the parts that are
-// possible. The marks become 0 where parts are not looked at, 1 for a part that is clear, 2 for one that is possible and was scanned. The hard
+// possible. Each part has an eighth of the arguments, rounded down, and the first ones have one more until the rest is used up. The marks become 0
+// where parts are not looked at, 1 for a part that is clear, 2 for one that is possible and was scanned, 3 for one that has no argument. The hard
 // arguments are listed as by a scan.
 // Refused: 1 where the modulus is outside 2 to 2^62, else 2 where the slope is not below it, else 3 where the value is not, else 4 where the
-// count is outside 8 to 1,048,576 or not a multiple of 8, else 5 where the window is above the modulus, else 6 where the curve is outside
-// -1,048,576 to 1,048,576, else 7 where the list has fewer places than there are hard arguments. On a refusal marks and list are as they were.
+// count is outside 1 to 1,048,576, else 5 where the window is above the modulus, else 6 where the curve is outside -1,048,576 to 1,048,576, else 7
+// where the list has fewer places than there are hard arguments. On a refusal marks and list are as they were.
 pub fn search_domain(domain: Domain, marks: &mut [u8; 8], list: &mut [u32]) -> DomainAnswer
     ensures { λ r. ⌜ r ≡ domain-answer domain (length (now (list .entry))) ⌝ }
     ensures { λ r. ⌜ now (marks .exit) ≡ marks-after domain (length (now (list .entry))) (now (marks .entry)) ⌝ }
@@ -111,17 +112,17 @@ pub fn search_domain(domain: Domain, marks: &mut [u8; 8], list: &mut [u32]) -> D
     }
 }
 
-// The number of the first condition that a domain fails, or 0. A count that is no multiple of 8 is refused as 0 is.
+// The number of the first condition that a domain fails, or 0: its curve's after those of the segment with the slope for its step and the value for its
+// start.
 fn refuse(domain: Domain) -> u32
-    ensures { λ r. ⌜ r ≡ refusal domain ⌝ }
+    ensures { λ r. ⌜ r ≡ refusal (arc-of domain) ⌝ }
 {
-    let eighths = domain.count * (domain.count % 8 == 0) as u64;
     arc::refuse(Arc {
         modulus: domain.modulus,
         value: domain.value,
         slope: domain.slope,
         curve: domain.curve,
-        count: eighths,
+        count: domain.count,
         window: domain.window,
     })
 }
@@ -145,7 +146,7 @@ fn centred(domain: Domain) -> Arc
 
 // Phases 2 and 3 of an arc that phase 1 does not clear: the hard arguments are counted before anything is written.
 fn search_parts(arc: Arc, marks: &mut [u8; 8], list: &mut [u32]) -> DomainAnswer
-    requires { ⌜ Divisible (parabola arc) ⌝ }
+    requires { ⌜ In-range (parabola arc) ⌝ }
     requires { ⌜ verdict regular (covering (parabola arc)) ≡ Possible ⌝ }
     ensures { λ r. ⌜ r ≡ answer-with (too-few (parabola arc) (length (now (list .entry)))) (parabola arc) ⌝ }
     ensures { λ r. ⌜ now (marks .exit) ≡ marks-with (too-few (parabola arc) (length (now (list .entry)))) (parabola arc) (now (marks .entry)) ⌝ }

@@ -5,12 +5,13 @@ ghost use Prim.Native.Nat.{_+_, _≤_, _<_};
 ghost use lib.ListN.{length};
 ghost use lib.Seq.{sets};
 ghost use Rattle.numbers.specs.Lists.{overwrite-front};
-ghost use Rattle.parabola.specs.Parabola.{In-range, Divisible, hard-list, part, part-start};
+ghost use Rattle.parabola.specs.Parabola.{In-range, hard-list, part, part-start, part-count};
 ghost use Rattle.arc.specs.Arc.{parabola};
 ghost use Rattle.domain.specs.Phases.{part-report, part-counts, report};
 use crate::scan::count_hard;
 use crate::scan::list_hard;
 use arc::Arc;
+use numbers::min;
 
 // Of a part: its mark, and how many hard arguments it has.
 struct PartReport {
@@ -25,31 +26,53 @@ pub(crate) struct Report {
     pub(crate) total: u32,
 }
 
-// A part is an arc: one of eight, as long as the others. It begins at an argument, so that it is never outside.
-fn part(arc: Arc, i: u64) -> Arc
-    requires { ⌜ Divisible (parabola arc) ⌝ }
+// Where a part begins.
+fn part_start(count: u64, i: u64) -> u64
+    requires { ⌜ count ≤ 1048576 ⌝ }
     requires { ⌜ i < 8 ⌝ }
+    ensures { λ r. ⌜ r ≡ part-start count i ⌝ }
+{
+    i * (count / 8) + min(i, count % 8)
+}
+
+// How many arguments it has.
+fn part_count(count: u64, i: u64) -> u64
+    requires { ⌜ count ≤ 1048576 ⌝ }
+    ensures { λ r. ⌜ r ≡ part-count count i ⌝ }
+{
+    count / 8 + (i < count % 8) as u64
+}
+
+// A part with arguments is an arc. It begins at one of them, so that it is never outside.
+fn part(arc: Arc, i: u64) -> Arc
+    requires { ⌜ In-range (parabola arc) ⌝ }
+    requires { ⌜ i < 8 ⌝ }
+    requires { ⌜ 1 ≤ part-count (arc .count) i ⌝ }
     ensures { λ r. ⌜ parabola r ≡ part (parabola arc) i ⌝ }
 {
-    let count = arc.count / 8;
-    match arc::point_at(arc, i * count) {
+    match arc::point_at(arc, part_start(arc.count, i)) {
         arc::PointAnswer::Outside => arc,
         arc::PointAnswer::At { value, slope } => Arc {
             modulus: arc.modulus,
             value: value,
             slope: slope,
             curve: arc.curve,
-            count: count,
+            count: part_count(arc.count, i),
             window: arc.window,
         },
     }
 }
 
-// Phase 2, and the first half of phase 3: a part that is possible is scanned.
-fn examine_part(part: Arc) -> PartReport
-    requires { ⌜ In-range (parabola part) ⌝ }
-    ensures { λ r. ⌜ r ≡ part-report (parabola part) ⌝ }
+// Phase 2, and the first half of phase 3: a part that is possible is scanned. One without arguments is neither searched nor scanned.
+fn examine_part(arc: Arc, i: u64) -> PartReport
+    requires { ⌜ In-range (parabola arc) ⌝ }
+    requires { ⌜ i < 8 ⌝ }
+    ensures { λ r. ⌜ r ≡ part-report (part (parabola arc) i) ⌝ }
 {
+    if part_count(arc.count, i) == 0 {
+        return PartReport { mark: 3, count: 0 };
+    }
+    let part = part(arc, i);
     match arc::fine_verdict(part) {
         segment::Verdict::Clear => PartReport { mark: 1, count: 0 },
         segment::Verdict::Possible => PartReport {
@@ -60,7 +83,7 @@ fn examine_part(part: Arc) -> PartReport
 }
 
 pub(crate) fn examine_parts(arc: Arc) -> Report
-    requires { ⌜ Divisible (parabola arc) ⌝ }
+    requires { ⌜ In-range (parabola arc) ⌝ }
     ensures { λ r. ⌜ r ≡ report (parabola arc) ⌝ }
 {
     let mut marks = [0u8; 8];
@@ -68,7 +91,7 @@ pub(crate) fn examine_parts(arc: Arc) -> Report
     let mut total: u32 = 0;
     let mut i: usize = 0;
     while i < 8 {
-        let examined = examine_part(part(arc, i as u64));
+        let examined = examine_part(arc, i as u64);
         marks[i] = examined.mark;
         counts[i] = examined.count;
         total = total + examined.count;
@@ -83,7 +106,7 @@ pub(crate) fn examine_parts(arc: Arc) -> Report
 
 // The second half of phase 3, once it is known that the list has room for all.
 pub(crate) fn list_parts(arc: Arc, counts: [u32; 8], list: &mut [u32])
-    requires { ⌜ Divisible (parabola arc) ⌝ }
+    requires { ⌜ In-range (parabola arc) ⌝ }
     requires { ⌜ counts ≡ part-counts (parabola arc) ⌝ }
     requires { ⌜ length (hard-list (parabola arc)) ≤ length (now list) ⌝ }
     ensures { λ _. ⌜ now (list .exit) ≡ overwrite-front (hard-list (parabola arc)) (now (list .entry)) ⌝ }
@@ -98,20 +121,20 @@ pub(crate) fn list_parts(arc: Arc, counts: [u32; 8], list: &mut [u32])
     }
 }
 
-// A part without hard arguments is not scanned again.
+// A part without hard arguments, and so one without any, is not scanned again.
 fn list_part(arc: Arc, i: u64, number: u32, list: &mut [u32], place: usize)
-    requires { ⌜ Divisible (parabola arc) ⌝ }
+    requires { ⌜ In-range (parabola arc) ⌝ }
     requires { ⌜ i < 8 ⌝ }
     requires { ⌜ number ≡ length (hard-list (part (parabola arc) i)) ⌝ }
     requires { ⌜ place + number ≤ length (now list) ⌝ }
-    ensures { λ _. ⌜ now (list .exit) ≡ sets (now (list .entry)) place (map (λ x. part-start (parabola arc) i + x) (hard-list (part (parabola arc) i))) ⌝ }
+    ensures { λ _. ⌜ now (list .exit) ≡ sets (now (list .entry)) place (map (λ x. part-start (arc .count) i + x) (hard-list (part (parabola arc) i))) ⌝ }
 {
     if number == 0 {
         return;
     }
     list_hard(
         part(arc, i),
-        (i * (arc.count / 8)) as u32,
+        part_start(arc.count, i) as u32,
         number,
         list,
         place,

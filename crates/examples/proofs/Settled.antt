@@ -22,13 +22,13 @@ use Rattle.segment.specs.declared.FineAnswer.the-variants as fine-variants
 use Rattle.segment.proofs.Laws.{verdict-iff, regular-shows, fine-shows}
 use Rattle.parabola.specs.Parabola as parabola
 use Rattle.parabola.specs.Parabola.{triangle, value-at, slope-at, spread, covering-step, start-over, covering-start, covering-window, continued, part-count, part-start}
-use Rattle.domain.specs.Phases.{mark-of, marks-by}
+use Rattle.domain.specs.Phases.{mark-of, mark-with, marks-by}
 use Rattle.domain.specs.Answer.{domain-number, answer-with as domain-answer-with, domain-answer, marks-after, list-after, scan-number, scan-answer-with, scan-answer, scan-list-after}
 use Rattle.text.specs.Text.{decimal-within, decimal}
 use Rattle.text.specs.Reading.{starts, takes-digit, digits-from, number-from, field-at, unsigned, opposite, signed-from, signed-field-at}
 use Rattle.job.specs.Reading.{rest-from, reading}
 use Rattle.job.specs.Output.{verdict-name, argument-lines, refused, report, printed-for, printed, output-with, output-of}
-use Rattle.examples.specs.Settled.{Regular-shows, Fine-shows, Example-1, Example-6, Example-7, Example-8, Example-9, Example-10, Example-11, Both-sides, Settled}
+use Rattle.examples.specs.Settled.{Regular-shows, Fine-shows, Example-1, Example-6, Example-7, Example-8, Example-9, Example-10, Example-11, Both-sides, Any-length, Settled}
 
 example-1 : Example-1
 unfolding decLe decLt Dec·and ℕ-discrete ranged first-failing rows-from expansion zero-padded refusal answer-with answer regular-from regular parts-from fine-from fine
@@ -101,49 +101,58 @@ example-9 =
       left-too-few = λ x. refl;
     }
 
-example-10 : Example-10
-unfolding decLe decLt Dec·and ℕ-discrete ranged first-failing unless-refused rows-from expansion regular-from regular parts-from fine-from fine configurations-of reached-in reached residue least-from argument distance verdict-at filter-range tabulate overwrite-front _modulo_ triangle value-at slope-at parabola.is-hard parabola.hard-list parabola.centred spread covering-step start-over covering-start covering-window continued part-count part-start mark-of marks-by domain-number domain-answer-with domain-answer marks-after list-after decimal-within decimal starts takes-digit digits-from number-from field-at unsigned opposite signed-from signed-field-at rest-from reading verdict-name argument-lines refused report printed-for printed output-with output-of
-example-10 = record { prints = refl; read = refl; answered = refl; marks = λ old. refl; left = λ x y z. refl; covered = refl; too-few = refl; left-too-few = λ x. refl }
-
-example-11 : Example-11
-unfolding decLe decLt Dec·and ℕ-discrete ranged first-failing unless-refused rows-from expansion regular-from regular parts-from fine-from fine configurations-of reached-in reached residue least-from argument distance verdict-at filter-range tabulate overwrite-front _modulo_ triangle value-at slope-at parabola.is-hard parabola.hard-list parabola.centred spread covering-step start-over covering-start covering-window continued part-count part-start mark-of marks-by domain-number domain-answer-with domain-answer marks-after list-after
-example-11 =
-    record {
-      rising = refl;
-      rising-marks = λ old. refl;
-      rising-left = λ x y. refl;
-      falling = refl;
-      falling-marks = λ old. refl;
-      falling-left = λ x y. refl;
-    }
-
-both-sides : Both-sides
-unfolding decLe decLt Dec·and ℕ-discrete ranged first-failing unless-refused rows-from expansion regular-from regular parts-from fine-from fine configurations-of reached-in reached residue least-from argument distance verdict-at filter-range tabulate overwrite-front _modulo_ triangle value-at slope-at parabola.is-hard parabola.hard-list parabola.centred spread covering-step start-over covering-start covering-window continued part-count part-start mark-of marks-by domain-number domain-answer-with domain-answer marks-after list-after
-both-sides =
-    record {
-      line-2 = refl;
-      line-2-marks = λ old. refl;
-      line-2-left = λ x y. refl;
-      line-6 = refl;
-      line-6-left = refl;
-      above-5 = refl;
-      above-6 = refl;
-      above-6-left = refl;
-      below-5 = refl;
-      below-6 = refl;
-      below-6-left = refl;
-      rising = refl;
-      rising-marks = λ old. refl;
-      rising-left = λ x y. refl;
-      rising-covered = refl;
-      falling = refl;
-      falling-marks = λ old. refl;
-      falling-left = λ x y. refl;
-      falling-covered = refl;
-      without-window = refl;
-      without-window-marks = λ old. refl;
-      without-window-covered = refl;
-    }
+domains : Example-10 × Example-11 × Both-sides × Any-length
+unfolding decLe decLt Dec·and ℕ-discrete ranged first-failing unless-refused rows-from expansion regular-from regular parts-from fine-from fine configurations-of reached-in reached residue least-from argument distance verdict-at filter-range tabulate overwrite-front _modulo_ triangle value-at slope-at parabola.is-hard parabola.hard-list parabola.centred spread covering-step start-over covering-start covering-window continued part-count part-start mark-of mark-with marks-by domain-number domain-answer-with domain-answer marks-after list-after decimal-within decimal starts takes-digit digits-from number-from field-at unsigned opposite signed-from signed-field-at rest-from reading verdict-name argument-lines refused report printed-for printed output-with output-of
+domains = (
+  record { prints = refl; read = refl; answered = refl; marks = λ old. refl; left = λ x y z. refl; covered = refl; too-few = refl; left-too-few = λ x. refl },
+  record {
+    rising = refl;
+    rising-marks = λ old. refl;
+    rising-left = λ x y. refl;
+    falling = refl;
+    falling-marks = λ old. refl;
+    falling-left = λ x y. refl;
+  },
+  record {
+    line-2 = refl;
+    line-2-marks = λ old. refl;
+    line-2-left = λ x y. refl;
+    line-6 = refl;
+    line-6-left = refl;
+    above-5 = refl;
+    above-6 = refl;
+    above-6-left = refl;
+    below-5 = refl;
+    below-6 = refl;
+    below-6-left = refl;
+    rising = refl;
+    rising-marks = λ old. refl;
+    rising-left = λ x y. refl;
+    rising-covered = refl;
+    falling = refl;
+    falling-marks = λ old. refl;
+    falling-left = λ x y. refl;
+    falling-covered = refl;
+    without-window = refl;
+    without-window-marks = λ old. refl;
+    without-window-covered = refl;
+  },
+  record {
+    starts-of-12 = refl;
+    counts-of-12 = refl;
+    prints-12 = refl;
+    prints-3 = refl;
+    prints-1 = refl;
+    answered-12 = refl;
+    left-12 = λ x y z. refl;
+    marks-3 = λ old. refl;
+    left-3 = λ x y. refl;
+    cleared-3 = refl;
+    cleared-3-marks = λ old. refl;
+    refused-0 = refl;
+    refused-more = refl;
+  },
+)
 
 pub settled : Settled
 unfolding decLe decLt Dec·and ℕ-discrete ranged first-failing segments.refusal rows-from expansion regular-from regular parts-from fine-from fine configurations-of reached-in reached residue least-from argument distance verdict-at regular-shown fine-shown regular-answer-with fine-answer-with regular-answer fine-answer
@@ -158,7 +167,8 @@ settled =
       p7 = example-7;
       p8 = example-8;
       p9 = example-9;
-      p10 = example-10;
-      p11 = example-11;
-      both-sides = both-sides;
+      p10 = domains .0;
+      p11 = domains .1;
+      both-sides = domains .2;
+      any-length = domains .3;
     }

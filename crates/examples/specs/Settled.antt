@@ -5,6 +5,7 @@ use mathlib.Core.List.{List, [], _∷_}
 use Prim.Native.Nat.{ℕ, _≤_, _<_}
 use lib.IntN.{ℤ, pos, negsuc}
 use lib.ListN.{replicate}
+use Rattle.numbers.specs.Lists.{tabulate}
 use Rattle.expansion.specs.Rows.{expansion, remainders, denominators, quotients}
 use Rattle.expansion.specs.Configurations.{counts, regular, fine}
 use Rattle.expansion.specs.Answer.{answer}
@@ -13,6 +14,7 @@ use Rattle.segment.specs.Answer.{regular-answer, fine-answer}
 use Rattle.segment.specs.declared.Verdict.the-variants.{Clear, Possible}
 use Rattle.segment.specs.declared.RegularAnswer.the-variants as regular-variants
 use Rattle.segment.specs.declared.FineAnswer.the-variants as fine-variants
+use Rattle.parabola.specs.Parabola.{part-start, part-count}
 use Rattle.domain.specs.Domain.{covering-of}
 use Rattle.domain.specs.Answer.{scan-answer, scan-list-after, domain-answer, marks-after, list-after}
 use Rattle.domain.specs.declared.ScanAnswer.the-variants as scan-variants
@@ -117,9 +119,13 @@ pub record Example-9 : Type 0 where
   pub too-few : scan-answer 45 14 44 16 6 1 ≡ scan-variants.Refused 7
   pub left-too-few : (x : ℕ) → scan-list-after 45 14 44 16 6 (x ∷ []) ≡ x ∷ []
 
--- job J's domain: M 45, c0 44, c1 31, s 0, N 16, w 3
+-- job J's domain, M 45, c0 44, c1 31, s 0, w 3, with any count
+abbrev pub J-of : (count : ℕ) → Domain
+J-of n = record { modulus = 45; value = 44; slope = 31; curve = pos 0; count = n; window = 3 }
+
+-- it has 16 arguments
 abbrev pub J : Domain
-J = record { modulus = 45; value = 44; slope = 31; curve = pos 0; count = 16; window = 3 }
+J = J-of 16
 
 -- job J, bytes in and bytes out, by 02's request 2.1, and the segment that covers it
 pub record Example-10 : Type 0 where
@@ -154,9 +160,12 @@ pub record Example-11 : Type 0 where
 abbrev pub line-of-10 : (window : ℕ) → Domain
 line-of-10 w = record { modulus = 10; value = 3; slope = 3; curve = pos 0; count = 8; window = w }
 
--- a constant modulo 11
+-- a constant modulo 11, with so many arguments
+abbrev pub constant-of : (count value window : ℕ) → Domain
+constant-of n v w = record { modulus = 11; value = v; slope = 0; curve = pos 0; count = n; window = w }
+
 abbrev pub constant-of-11 : (value window : ℕ) → Domain
-constant-of-11 v w = record { modulus = 11; value = v; slope = 0; curve = pos 0; count = 8; window = w }
+constant-of-11 v w = constant-of 8 v w
 
 -- parabolas with a window of 2
 abbrev pub rising-arc : Domain
@@ -197,6 +206,31 @@ pub record Both-sides : Type 0 where
   pub without-window-marks : (old : List ℕ) → marks-after no-window 0 old ≡ 1 ∷ 1 ∷ 1 ∷ 1 ∷ 1 ∷ 1 ∷ 1 ∷ 1 ∷ []
   pub without-window-covered : covering-of no-window ≡ segment 45 0 3 8 28
 
+-- ---- domains of any length (2.2)
+
+pub record Any-length : Type 0 where
+  -- eight parts of 12 arguments: the first four have two, the others one
+  pub starts-of-12 : tabulate (part-start 12) 8 0 ≡ 0 ∷ 2 ∷ 4 ∷ 6 ∷ 8 ∷ 9 ∷ 10 ∷ 11 ∷ []
+  pub counts-of-12 : tabulate (part-count 12) 8 0 ≡ 2 ∷ 2 ∷ 2 ∷ 2 ∷ 1 ∷ 1 ∷ 1 ∷ 1 ∷ []
+  -- job J with 12 arguments, with 3 and with 1, bytes in and bytes out: parts without arguments are marked 3
+  pub prints-12 : output-of (bytes "modulus=45\nvalue=44\nslope=31\ncurve=0\ncount=12\nwindow=3\n")
+      ≡ bytes "first=possible\nparts=22111111\nlisted=2\nargument=0\nargument=3\n"
+  pub prints-3 : output-of (bytes "modulus=45\nvalue=44\nslope=31\ncurve=0\ncount=3\nwindow=3\n")
+      ≡ bytes "first=possible\nparts=21133333\nlisted=1\nargument=0\n"
+  pub prints-1 : output-of (bytes "modulus=45\nvalue=44\nslope=31\ncurve=0\ncount=1\nwindow=3\n")
+      ≡ bytes "first=possible\nparts=23333333\nlisted=1\nargument=0\n"
+  -- in the calls' answers and buffers
+  pub answered-12 : domain-answer (J-of 12) 2 ≡ domain-variants.Searched Possible 2
+  pub left-12 : (x y z : ℕ) → list-after (J-of 12) (x ∷ y ∷ z ∷ []) ≡ 0 ∷ 3 ∷ z ∷ []
+  pub marks-3 : (old : List ℕ) → marks-after (J-of 3) 1 old ≡ 2 ∷ 1 ∷ 1 ∷ 3 ∷ 3 ∷ 3 ∷ 3 ∷ 3 ∷ []
+  pub left-3 : (x y : ℕ) → list-after (J-of 3) (x ∷ y ∷ []) ≡ 0 ∷ y ∷ []
+  -- a domain of 3 arguments that is cleared is not looked at in parts, whether they have arguments or not
+  pub cleared-3 : domain-answer (constant-of 3 5 5) 0 ≡ domain-variants.Searched Clear 0
+  pub cleared-3-marks : (old : List ℕ) → marks-after (constant-of 3 5 5) 0 old ≡ replicate 8 0
+  -- no argument, and too many
+  pub refused-0 : domain-answer (J-of 0) 4096 ≡ domain-variants.Refused 4
+  pub refused-more : domain-answer (J-of 1048577) 4096 ≡ domain-variants.Refused 4
+
 -- all of them
 pub record Settled : Type 0 where
   pub p1 : Example-1
@@ -211,3 +245,4 @@ pub record Settled : Type 0 where
   pub p10 : Example-10
   pub p11 : Example-11
   pub both-sides : Both-sides
+  pub any-length : Any-length

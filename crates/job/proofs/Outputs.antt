@@ -96,12 +96,12 @@ module _ (d : Domain) where
     marks-correct = subst (Marks-correct d first) marks-are (correct .marked first listed e)
 
     pub marks-small : Small-marks (marks-of d)
-    marks-small i = omega (arith, marks-correct .at-most-2 i)
+    marks-small i = omega (arith, marks-correct .at-most-3 i)
 
     report-fits : length (report first (marks-of d) (hard-arguments d)) ≤ longest
     report-fits =
         report-short first (marks-of d) (hard-arguments d) (marks-correct .eight) few
-        (λ x m. omega (arith, hard-listed .exactly x .0 m .0, correct .searched first listed .0 e .0 .in-range .count-high))
+        (λ x m. omega (arith, hard-listed .exactly x .0 m .0, correct .searched first listed .0 e .0 .count-high))
 
 -- ---- the output of a job
 

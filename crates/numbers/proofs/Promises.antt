@@ -9,6 +9,7 @@ use Rattle.numbers.specs.Lists.{count-if, joined}
 use Rattle.numbers.specs.Promise.{Conditions-correct, Buffers-correct, Promised}
 use Rattle.numbers.proofs.Checklists.{refuses, accepts}
 use Rattle.numbers.proofs.Integers.{mod-below, mod-multiple}
+use Rattle.numbers.proofs.Pieces.{pieces-correct}
 use Rattle.numbers.proofs.Buffers.{front-correct}
 
 conditions-correct : Conditions-correct
@@ -48,5 +49,6 @@ promised =
       remainders = λ z M. record { in-range = λ positive. mod-below positive z; multiple = λ positive. mod-multiple positive z };
       remainders-by-zero = λ n. (mod-zero n, omega arith);
       counts = λ p. unfold count-if in record { none-left = λ x. refl; counted = λ n x e. rw e (omega arith); passed = λ n x e. rw e (omega arith) };
+      pieces = pieces-correct;
       buffers = buffers-correct;
     }

@@ -5,12 +5,12 @@ use mathlib.Core.Path.{_≡_}
 use mathlib.Core.Bool.{Bool, true, false}
 use mathlib.Core.List.{List, [], _∷_, _++_, List·Memᴰ}
 use mathlib.Core.Logic.{_↔_}
-use Prim.Native.Nat.{ℕ, suc, _+_, _^_, _≤_, _<_, _∣_}
+use Prim.Native.Nat.{ℕ, suc, _+_, _-_, _^_, _≤_, _<_, _∣_}
 use lib.IntN.{ℤ, pos, negsuc, _+ℤ_, _*ℤ_}
 use lib.ListN.{length, getD}
 use Rattle.numbers.specs.Checklist.{Condition, Check, condition, check, conditions, first-failing, All-hold, Refused-by, Numbered, unless-refused}
 use Rattle.numbers.specs.Integers.{_modulo_}
-use Rattle.numbers.specs.Lists.{count-if, joined, overwrite-front, place-after}
+use Rattle.numbers.specs.Lists.{filter-range, count-if, joined, overwrite-front, place-after}
 
 -- ---- refusals
 
@@ -62,6 +62,28 @@ pub record Counts-correct (property : ℕ → Bool) : Type 0 where
   pub counted : (n x : ℕ) → property x ≡ true → count-if property (suc n) x ≡ suc (count-if property n (suc x))
   pub passed : (n x : ℕ) → property x ≡ false → count-if property (suc n) x ≡ count-if property n (suc x)
 
+-- ---- pieces of a stretch
+
+-- so many pieces make up the numbers below a total, one after another: the piece i goes from its start to the next one's, and the starts ascend from 0 to the
+-- total. A piece may have no number
+pub record Cuts (start : ℕ → ℕ) (pieces total : ℕ) : Type 0 where
+  pub first : start 0 ≡ 0
+  pub ascend : (i : ℕ) → i < pieces → start i ≤ start (suc i)
+  pub last : start pieces ≡ total
+
+-- a number is in the piece i
+abbrev pub In-piece : (start : ℕ → ℕ) → (i x : ℕ) → Type 0
+In-piece start i x = (start i ≤ x) × (x < start (suc i))
+
+-- then every number below the total is in exactly one piece, and no piece has another; the pieces are in order; and what they list, one after another, is
+-- what the stretch lists
+pub record Pieces-correct (start : ℕ → ℕ) (pieces total : ℕ) : Type 0 where
+  pub once : (x : ℕ) → x < total → (i : ℕ) × (i < pieces) × In-piece start i x × ((j : ℕ) → j < pieces → In-piece start j x → j ≡ i)
+  pub inside : (i : ℕ) → i < pieces → (x : ℕ) → In-piece start i x → x < total
+  pub ordered : (i j : ℕ) → i < j → j < pieces → (x y : ℕ) → In-piece start i x → In-piece start j y → x < y
+  pub lists : (property : ℕ → Bool)
+      → joined (λ i. filter-range property (start (suc i) - start i) (start i)) pieces 0 ≡ filter-range property total 0
+
 -- ---- buffers
 
 -- a list stands in a buffer: from the first place on, and every place after it is as it was
@@ -91,4 +113,5 @@ pub record Promised : Type 1 where
   -- by 0 nothing is taken off, and a negative number leaves 0
   pub remainders-by-zero : (n : ℕ) → (pos n modulo 0 ≡ n) × (negsuc n modulo 0 ≡ 0)
   pub counts : (property : ℕ → Bool) → Counts-correct property
+  pub pieces : (start : ℕ → ℕ) (pieces total : ℕ) → Cuts start pieces total → Pieces-correct start pieces total
   pub buffers : Buffers-correct

@@ -1,10 +1,10 @@
 -- The products that the code makes of a parabola within its bounds fit a word: D is at most 2^59. Assumes nothing.
-use Prim.Native.Nat.{ℕ, _+_, _*_, _/_, _≤_, _<_}
-use native.Mathlib.Nat.{mul-le-mul, mul-le-mul-right}
+use Prim.Native.Nat.{ℕ, _+_, _*_, _≤_}
+use native.Mathlib.Nat.{mul-le-mul}
 use native.Mathlib.Omega.{arith}
 use lib.IntN.{natAbs}
 use Rattle.numbers.proofs.Selections.{filter-few}
-use Rattle.parabola.specs.Parabola.{Parabola, triangle, is-hard, hard-list, spread, part-start, part-count, In-range}
+use Rattle.parabola.specs.Parabola.{Parabola, triangle, is-hard, hard-list, spread, In-range}
 use Rattle.parabola.proofs.Values.{triangle-double}
 use lib.ListN.{length}
 
@@ -27,8 +27,3 @@ module _ {p : Parabola} (range : In-range p) where
   pub list-most : length (hard-list p) ≤ 1048576
   unfolding hard-list
   list-most = omega (arith, filter-few (is-hard p) (p .count) 0, range .count-high)
-
-  -- a part begins and ends within the parabola
-  pub part-within : (i : ℕ) → i < 8 → part-start p i + part-count p i ≤ p .count
-  unfolding part-start part-count
-  part-within i h = omega (arith, mul-le-mul-right {m = i + 1} {n = 8} (p .count / 8) (omega arith))

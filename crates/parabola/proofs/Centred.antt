@@ -8,7 +8,7 @@ use native.Mathlib.Decide.{decLt}
 use native.Mathlib.Omega.{arith}
 use Rattle.numbers.proofs.Congruences.{equals, flip, chain, plus, remainder, is-remainder}
 use Rattle.numbers.proofs.Integers.{gain, loss}
-use Rattle.parabola.specs.Parabola.{Parabola, triangle, value-at, slope-at, centred, spread, covering, continued, part-start, part-count, part, In-range, Divisible}
+use Rattle.parabola.specs.Parabola.{Parabola, triangle, value-at, slope-at, centred, spread, covering, continued, part-start, part-count, part, In-range}
 use Rattle.parabola.specs.Promise.{Covers-by, Covering-correct, Covering-both-correct, Centred-correct}
 use Rattle.parabola.proofs.Values.{value-congruent, value-is, value-below}
 use Rattle.parabola.proofs.Coverings.{covering-correct}
@@ -72,10 +72,10 @@ module _ (p : Parabola) (range : In-range p) where
   parts i = λ j.
       record {
         unit = p .unit;
-        value = raised (part-start p i) j;
-        slope = same-slope (part-start p i) j;
+        value = raised (part-start (p .count) i) j;
+        slope = same-slope (part-start (p .count) i) j;
         curve = p .curve;
-        count = part-count p i;
+        count = part-count (p .count) i;
         window = min (p .unit) (2 * p .window - 1);
       }
 
@@ -130,8 +130,3 @@ module _ (p : Parabola) (range : In-range p) where
         parts = parts;
         unchanged = unchanged;
       }
-
--- it has eight parts that are equally long where the parabola has
-pub centred-divisible : {p : Parabola} → Divisible p → Divisible (centred p)
-unfolding centred
-centred-divisible {p} d = record { in-range = within p (d .in-range); count-some = d .count-some; count-eighths = d .count-eighths }

@@ -1,7 +1,6 @@
 -- A parabola V(x) = (c0 + c1·x + s·x(x-1)/2) mod M over the arguments x below N, with a window w, in plain numbers (document 01: a domain's
 -- values): which of its arguments are hard, on one side; the parabola whose hard arguments are those near a multiple of M on either side (document 02,
 -- 2.1); the segment that covers it; and its parts. Assumes nothing: these are definitions.
-use mathlib.Core.Path.{_≡_}
 use mathlib.Core.Bool.{Bool}
 use mathlib.Core.List.{List}
 use Prim.Native.Nat.{ℕ, _+_, _-_, _*_, _/_, _%_, _≤_, _<_, min}
@@ -101,21 +100,21 @@ unfoldable pub continued : Parabola → (h count : ℕ) → Parabola
 continued p h n =
     record { unit = p .unit; value = value-at p h; slope = slope-at p h; curve = p .curve; count = n; window = p .window }
 
--- how many arguments the part i has, of eight
-unfoldable pub part-count : Parabola → (i : ℕ) → ℕ
-part-count p i = p .count / 8
+-- of eight parts of N arguments, where the part i begins. Each has N/8, rounded down, and the first ones take one more until the rest is used up
+unfoldable pub part-start : (N i : ℕ) → ℕ
+part-start N i = i * (N / 8) + min i (N % 8)
 
--- where it begins
-unfoldable pub part-start : Parabola → (i : ℕ) → ℕ
-part-start p i = i * (p .count / 8)
+-- how many arguments it has: one more where i is below the rest
+unfoldable pub part-count : (N i : ℕ) → ℕ
+part-count N i = N / 8 + min 1 (N % 8 - i)
 
 -- the part i
 abbrev pub part : Parabola → (i : ℕ) → Parabola
-part p i = continued p (part-start p i) (part-count p i)
+part p i = continued p (part-start (p .count) i) (part-count (p .count) i)
 
 -- ---- bounds
 
--- within which the code can compute; they hold of every accepted domain and of its parts
+-- within which the code can compute; they hold of every accepted domain and of each part that has an argument
 pub record In-range (p : Parabola) : Type 0 where
   pub unit-within : Ranged (p .unit)
   pub slope-below : p .slope < p .unit
@@ -124,12 +123,6 @@ pub record In-range (p : Parabola) : Type 0 where
   pub count-high : p .count ≤ 1048576
   pub window-within : p .window ≤ p .unit
   pub size-small : natAbs (p .curve) ≤ 1048576
-
--- what has eight parts that are equally long
-pub record Divisible (p : Parabola) : Type 0 where
-  pub in-range : In-range p
-  pub count-some : 8 ≤ p .count
-  pub count-eighths : p .count % 8 ≡ 0
 
 -- ---- lines
 

@@ -1,17 +1,17 @@
 -- What is promised of a parabola, with the letters of document 01: M the unit, c0 the value, c1 the slope, s the curve, N the count, w the window.
 -- `Promised`, at the end, is all of it; proofs/Promises.antt proves it. Assumes nothing: these are statements.
 use mathlib.Core.Path.{_≡_}
-use mathlib.Core.List.{map}
+use mathlib.Core.List.{[], map}
 use mathlib.Core.Logic.{_↔_, _⊎_}
 use Prim.Native.Nat.{ℕ, suc, _+_, _-_, _*_, _/_, _%_, _≤_, _<_, min}
 use lib.Dec.{ltb}
 use lib.IntN.{ℤ, pos, negsuc, negℤ, natAbs, _+ℤ_, _*ℤ_}
 use Rattle.numbers.specs.Integers.{_modulo_}
 use Rattle.numbers.specs.Lists.{count-if, joined}
-use Rattle.numbers.specs.Promise.{Enumerates}
+use Rattle.numbers.specs.Promise.{Enumerates, Cuts}
 use Rattle.geometry.specs.Segment.{Segment, residue}
 use Rattle.geometry.specs.Segment as segment
-use Rattle.parabola.specs.Parabola.{Parabola, triangle, value-at, slope-at, second-difference, hard-list, centred, spread, covering, continued, part-start, part-count, part, In-range, Divisible, line}
+use Rattle.parabola.specs.Parabola.{Parabola, triangle, value-at, slope-at, second-difference, hard-list, centred, spread, covering, continued, part-start, part-count, part, In-range, line}
 
 -- ---- values
 
@@ -99,22 +99,36 @@ pub record Centred-correct (p : Parabola) : Type 0 where
 
 -- ---- the parts
 
--- parts cover the arguments from 0 to N - 1 once each, in order; a part's value at y is the parabola's at the part's beginning and y more
+-- the eight parts of N arguments: each has N/8, rounded down, and the first ones one more until the rest is used up. Each begins where the one before ends, the
+-- first at 0, and the last ends at N, so that they have every argument below N once and in order. Lengths differ by at most one, the longer ones come first,
+-- and together they are N. A part has no argument exactly where N is at most its number. For a multiple of 8 all have N/8, as before document 02's 2.2
+pub record Eighths-correct (N : ℕ) : Type 0 where
+  pub begins : (i : ℕ) → part-start N i ≡ i * (N / 8) + min i (N % 8)
+  pub longer : (i : ℕ) → i < N % 8 → part-count N i ≡ N / 8 + 1
+  pub shorter : (i : ℕ) → N % 8 ≤ i → part-count N i ≡ N / 8
+  pub next : (i : ℕ) → part-start N (suc i) ≡ part-start N i + part-count N i
+  pub cuts : Cuts (part-start N) 8 N
+  pub once : (x : ℕ) → x < N → (i : ℕ) × (i < 8) × (part-start N i ≤ x) × (x < part-start N i + part-count N i)
+      × ((j : ℕ) → j < 8 → part-start N j ≤ x → x < part-start N j + part-count N j → j ≡ i)
+  pub inside : (i : ℕ) → i < 8 → part-start N i + part-count N i ≤ N
+  pub longer-first : (i j : ℕ) → i ≤ j → part-count N j ≤ part-count N i
+  pub nearly-equal : (i j : ℕ) → part-count N i ≤ part-count N j + 1
+  pub together : part-count N 0 + part-count N 1 + part-count N 2 + part-count N 3 + part-count N 4 + part-count N 5 + part-count N 6 + part-count N 7 ≡ N
+  pub empty : (i : ℕ) → i < 8 → (part-count N i ≡ 0) ↔ (N ≤ i)
+  pub of-a-multiple : N % 8 ≡ 0 → (i : ℕ) → (part-start N i ≡ i * (N / 8)) × (part-count N i ≡ N / 8)
+
+-- a part has the value and the slope at its beginning, and goes on as the parabola does: its value at y is the parabola's at the part's beginning and y more
 pub record Parts-correct (p : Parabola) : Type 0 where
-  pub first : part-start p 0 ≡ 0
-  pub next : (i : ℕ) → part-start p (suc i) ≡ part-start p i + part-count p i
-  pub last : part-start p 8 ≡ p .count
-  pub once : (x : ℕ) → x < p .count → (i : ℕ) × (i < 8) × (part-start p i ≤ x) × (x < part-start p i + part-count p i)
-      × ((j : ℕ) → j < 8 → part-start p j ≤ x → x < part-start p j + part-count p j → j ≡ i)
-  pub equal : (i : ℕ) → part-count p i * 8 ≡ p .count
-  pub length-of : (i : ℕ) → part p i .count ≡ part-count p i
-  pub begins : (i : ℕ) → (part p i .value ≡ value-at p (part-start p i)) × (part p i .slope ≡ slope-at p (part-start p i))
+  pub length-of : (i : ℕ) → part p i .count ≡ part-count (p .count) i
+  pub begins : (i : ℕ)
+      → (part p i .value ≡ value-at p (part-start (p .count) i)) × (part p i .slope ≡ slope-at p (part-start (p .count) i))
   pub same : (i : ℕ) → (part p i .unit ≡ p .unit) × (part p i .curve ≡ p .curve) × (part p i .window ≡ p .window)
-  pub in-range-of : (i : ℕ) → In-range (part p i)
-  pub continues : (i y : ℕ) → value-at (part p i) y ≡ value-at p (part-start p i + y)
-  pub slope : (i y : ℕ) → slope-at (part p i) y ≡ slope-at p (part-start p i + y)
-  -- what the parts list, as arguments of the parabola, one part after another, is what the parabola lists
-  pub lists : joined (λ i. map (λ (y : ℕ). part-start p i + y) (hard-list (part p i))) 8 0 ≡ hard-list p
+  pub in-range-of : (i : ℕ) → 1 ≤ part-count (p .count) i → In-range (part p i)
+  pub continues : (i y : ℕ) → value-at (part p i) y ≡ value-at p (part-start (p .count) i + y)
+  pub slope : (i y : ℕ) → slope-at (part p i) y ≡ slope-at p (part-start (p .count) i + y)
+  -- what the parts list, as arguments of the parabola, one part after another, is what the parabola lists; a part without arguments lists nothing
+  pub lists : joined (λ i. map (λ (y : ℕ). part-start (p .count) i + y) (hard-list (part p i))) 8 0 ≡ hard-list p
+  pub nothing-listed : (i : ℕ) → part-count (p .count) i ≡ 0 → hard-list (part p i) ≡ []
 
 -- ---- lines
 
@@ -131,5 +145,6 @@ pub record Promised : Type 0 where
       → Enumerates (λ x. (x < p .count) × (value-at p x < p .window)) (count-if (λ x. ltb (value-at p x) (p .window)) (p .count) 0) (hard-list p)
   pub coverings : (p : Parabola) → 0 < p .unit → p .slope < p .unit → Covering-correct p
   pub centred-correct : (p : Parabola) → In-range p → Centred-correct p
-  pub parts : (p : Parabola) → Divisible p → Parts-correct p
+  pub eighths : (N : ℕ) → Eighths-correct N
+  pub parts : (p : Parabola) → In-range p → Parts-correct p
   pub lines : (s : Segment) → s .step < s .unit → Line-correct s

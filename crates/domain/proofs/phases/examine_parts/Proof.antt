@@ -1,14 +1,11 @@
 -- `domain::phases::examine_parts` meets its contract.
 -- The loop's invariant: the marks and counts of the parts before i are written and their hard arguments counted. The measure is the number of parts
 -- from i on. Assumes nothing.
-use mathlib.Core.Path.{_∙_, ap}
 use Prim.Native.Nat.{_+_, _-_}
 use native.Mathlib.Omega.{arith}
 use lib.ListN.{set}
 use Rattle.parabola.proofs.Laws.{list-most}
-use Rattle.parabola.proofs.Promises.{promised}
 use Rattle.arc.specs.Arc.{parabola}
-use Rattle.domain.specs.Phases.{part-report}
 use Rattle.domain.proofs.Parts.{Examining, examine-first, examine-next, examine-done}
 use Rattle.domain.proofs.phases.examine_parts.Statement.{statement}
 use Rattle.domain.proofs.phases.examine_parts.Tie as tie
@@ -21,26 +18,23 @@ abbrev μ-loop : tie.MeasureT-loop
 
 -- one part more
 examined : (c : tie.After-examine-part Inv-loop μ-loop)
-    → let l = c .before .before .before .loop in
-    Examining (parabola (c .before .before .before .before .args .arc)) (set (l .marks) (l .i) (c .examine-part .result .mark))
+    → let l = c .before .before .loop in
+    Examining (parabola (c .before .before .before .args .arc)) (set (l .marks) (l .i) (c .examine-part .result .mark))
     (set (l .counts) (l .i) (c .examine-part .result .count)) (l .total + c .examine-part .result .count) (l .i + 1)
 examined c =
-    let at-turn = c .before .before in
-    examine-next (at-turn .before .loop .inv) (at-turn .loop-test .taken) (c .examine-part .ensures ∙ ap part-report (c .before .part .ensures))
+    let at-turn = c .before in
+    examine-next (at-turn .before .loop .inv) (at-turn .loop-test .taken) (c .examine-part .ensures)
 
 loop-holds : tie.Need-loop-holds Inv-loop μ-loop
 loop-holds c = examine-first (c .pre)
 
-part-requires : tie.Need-part-requires Inv-loop μ-loop
-part-requires c κs = (c .before .before .pre, c .loop-test .taken)
-
 examine-part-requires : tie.Need-examine-part-requires Inv-loop μ-loop
-examine-part-requires c κs = rw (c .part .ensures) (promised .parts _ (c .before .before .before .pre) .in-range-of _)
+examine-part-requires c κs = (c .before .before .pre, c .loop-test .taken)
 
 add-total : tie.Need-add-total Inv-loop μ-loop
 add-total c =
     let n = examined (c .before) in
-    record { fits = omega (arith, n .to-come, list-most (c .before .before .before .before .before .pre .in-range)) }
+    record { fits = omega (arith, n .to-come, list-most (c .before .before .before .before .pre)) }
 
 returns : tie.Need-returns Inv-loop μ-loop
 returns c = examine-done (c .before .loop .inv) (c .loop-test .left)
@@ -48,7 +42,7 @@ returns c = examine-done (c .before .loop .inv) (c .loop-test .left)
 pub examine-parts-spec : {M : Type 1} → statement M
 examine-parts-spec =
     tie.close
-    (tie.spec Inv-loop μ-loop loop-holds part-requires examine-part-requires (λ c. c .before .before .loop-test .taken)
-    (λ c. let h = c .before .before .loop-test .taken in record { fits = omega (arith, h) }) (λ c. c .before .before .loop-test .taken) add-total
-    (λ c. record { fits = omega (arith, c .before .before .before .loop-test .taken) })
-    (λ c. omega (arith, c .before .before .before .loop-test .taken)) (λ c. examined (c .before)) returns)
+    (tie.spec Inv-loop μ-loop loop-holds examine-part-requires (λ c. c .before .loop-test .taken)
+    (λ c. let h = c .before .loop-test .taken in record { fits = omega (arith, h) }) (λ c. c .before .loop-test .taken) add-total
+    (λ c. record { fits = omega (arith, c .before .before .loop-test .taken) }) (λ c. omega (arith, c .before .before .loop-test .taken))
+    (λ c. examined (c .before)) returns)

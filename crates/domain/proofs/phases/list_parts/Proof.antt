@@ -40,7 +40,7 @@ room c =
 few : (c : tie.In-loop Inv-loop μ-loop) → let s = c .before .before .before in c .before .loop .place + getD (s .args .t2) (c .before .loop .i) 0 ≤ 1048576
 few c =
     let s = c .before .before .before in
-    omega (arith, number-is c, list-end (c .before .loop .inv) (c .loop-test .taken), list-most (s .pre .0 .in-range))
+    omega (arith, number-is c, list-end (c .before .loop .inv) (c .loop-test .taken), list-most (s .pre .0))
 
 loop-holds : tie.Need-loop-holds Inv-loop μ-loop
 loop-holds c = list-first _ (c .before .pre .0)
