@@ -39,6 +39,7 @@ FILES = {
     "exp-listed": ("0x1.4p-1", 1 << 15, 14),
     "exp-hard": ("0x1.83d4bcdeb8p+2", 1 << 15, 33),
     "exp-hardest": ("-0x1.ed318efcp-27", 1 << 20, 42),
+    "exp-last": ("0x1.fffffffffc86cp+1", 14228, 12),
 }
 
 
@@ -65,10 +66,11 @@ def job(first, count, bits):
     m, e = split(first)
     if "0x" not in first or not -107 <= e <= -48:
         sys.exit("the first double must be hexadecimal, as 0x1.2p-1, and its size from 2^-55 to below 32")
-    if count % 8 != 0 or not 8 <= count <= 1 << 20 or not 2 <= bits <= 62:
-        sys.exit("the count must be a multiple of 8 from 8 to 2^20, and the bits from 2 to 62")
-    (f0, k), (f1, _), (f2, _), (_, last) = (scaled(m + x, e) for x in (0, 1, 2, count - 1))
-    if k != last or not 1 << 52 <= abs(m + count - 1) <= 1 << 53:
+    if not 1 <= count <= 1 << 20 or not 2 <= bits <= 62:
+        sys.exit("the count must be from 1 to 2^20, and the bits from 2 to 62")
+    far = max(2, count - 1)
+    (f0, k), (f1, _), (f2, _), (_, last) = (scaled(m + x, e) for x in (0, 1, 2, far))
+    if k != last or not 1 << 52 <= abs(m + far) <= 1 << 53:
         sys.exit("no power of two may lie between the doubles, nor between their exponentials")
     exact = [MODULUS * c for c in (f0, f1 - f0, f2 - 2 * f1 + f0)]
     value, slope, curve = ((c + HALF) >> POINT for c in exact)

@@ -17,7 +17,7 @@
  *     1   modulus below 2 or above 2^62
  *     2   step or slope not below the modulus
  *     3   start or value not below the modulus
- *     4   count of a segment not 1 to 1,048,576; count of a domain not 8 to 1,048,576 or not a multiple of 8
+ *     4   count not 1 to 1,048,576
  *     5   window above the modulus
  *     6   curve below -1,048,576 or above 1,048,576
  *     7   more hard arguments than the list has places
@@ -163,12 +163,13 @@ uint32_t geyserdish_scan_segment(
 
 /*
  * The search of a domain: its hard arguments, all of them. A regular search tries to clear the whole domain. Where it does not, a
- * fine search tries to clear each of eight equal parts, and a scan visits every argument of the parts that are not clear either.
+ * fine search tries to clear each of eight parts, and a scan visits every argument of the parts that are not clear either. Each part
+ * has count / 8 arguments, rounded down, and the first count % 8 parts have one more.
  *
  * Leaves:
  *     list[0] to list[searched[1] - 1]   the hard arguments, each once, in ascending order; the places after them are as they were
  *     marks[0] to marks[7]               of the eight parts, in order: 0, not looked at, of all eight where the domain is cleared;
- *                                        1, clear, with no hard argument; 2, possible, and scanned
+ *                                        1, clear, with no hard argument; 2, possible, and scanned; 3, without arguments
  *     searched[0]                        the verdict on the whole domain: 1, cleared, with no hard argument, or 0, possible
  *     searched[1]                        how many hard arguments there are
  *
@@ -176,7 +177,7 @@ uint32_t geyserdish_scan_segment(
  *     1   modulus below 2 or above 2^62
  *     2   slope not below the modulus
  *     3   value not below the modulus
- *     4   count not 8 to 1,048,576 or not a multiple of 8
+ *     4   count not 1 to 1,048,576
  *     5   window above the modulus
  *     6   curve below -1,048,576 or above 1,048,576
  *     7   more hard arguments than places

@@ -146,6 +146,7 @@ struct Tally {
     cleared: usize,
     clear_parts: usize,
     scanned_parts: usize,
+    empty_parts: usize,
     listed: usize,
 }
 
@@ -158,18 +159,19 @@ impl Tally {
         self.cleared += other.cleared;
         self.clear_parts += other.clear_parts;
         self.scanned_parts += other.scanned_parts;
+        self.empty_parts += other.empty_parts;
         self.listed += other.listed;
     }
 }
 
 impl fmt::Display for Tally {
     fn fmt(&self, f: &mut fmt::Formatter) -> fmt::Result {
-        let Tally { windows, cleared, clear_parts, scanned_parts, listed, .. } = self;
+        let Tally { windows, cleared, clear_parts, scanned_parts, empty_parts, listed, .. } = self;
         if self.domains.is_empty() {
             write!(f, "{} segments, {windows} windows, {listed} listed", self.segments.len())?;
         } else {
             write!(f, "{} domains, {windows} windows, {cleared} cleared", self.domains.len())?;
-            write!(f, ", {clear_parts} parts clear and {scanned_parts} scanned, {listed} listed")?;
+            write!(f, ", {clear_parts} parts clear, {scanned_parts} scanned and {empty_parts} empty, {listed} listed")?;
         }
         if self.refused != 0 {
             write!(f, "; {} refused", self.refused)?;
@@ -184,15 +186,19 @@ fn compare(domain: &Domain, tally: &mut Tally) -> Result<(), String> {
         return check_refused(domain);
     }
     let (cleared, marks, list) = (domain.cleared(), domain.marks(), domain.hard());
-    if list.iter().any(|&x| marks[(x as u64 * 8 / domain.count) as usize] != 2) {
+    let starts = domain.starts();
+    let part_of = |x| starts[..8].iter().rposition(|&start| start <= x).unwrap();
+    if list.iter().any(|&x| marks[part_of(x as u64)] != 2) {
         return domain.wrong("hard where the reference clears");
     }
     check(domain, &list, &Shown { marks: &marks, numbers: &[cleared as u64, list.len() as u64] })?;
     tally.domains.insert(domain.parabola());
     tally.windows += 1;
     tally.cleared += cleared as usize;
-    tally.clear_parts += marks.iter().filter(|&&mark| mark == 1).count();
-    tally.scanned_parts += marks.iter().filter(|&&mark| mark == 2).count();
+    let marked = |wanted| marks.iter().filter(|&&mark| mark == wanted).count();
+    tally.clear_parts += marked(1);
+    tally.scanned_parts += marked(2);
+    tally.empty_parts += marked(3);
     tally.listed += list.len();
     Ok(())
 }
@@ -244,7 +250,7 @@ fn every_small_domain() -> Result<Tally, String> {
     let mut domains = Vec::new();
     for modulus in 2..=8 {
         for (value, slope) in (0..modulus).flat_map(|value| (0..modulus).map(move |slope| (value, slope))) {
-            for (curve, count) in [-9, -1, 0, 1, 2].iter().flat_map(|&s| [8, 16, 24].map(|n| (s, n))) {
+            for (curve, count) in [-9, -1, 0, 1, 2].iter().flat_map(|&s| (1..=40).map(move |n| (s, n))) {
                 domains.extend((0..=modulus).map(|window| domain(modulus, value, slope, curve, count, window)));
             }
         }
@@ -254,28 +260,28 @@ fn every_small_domain() -> Result<Tally, String> {
 
 fn random_small_moduli() -> Result<Tally, String> {
     random_domains(0, 40_000, |random, _| {
-        let (modulus, count) = (2 + random.below(4096), random_count(random, 32));
+        let (modulus, count) = (2 + random.below(4096), random_count(random, 256));
         somewhere(random, modulus, count)
     })
 }
 
 fn random_moduli_of_every_size() -> Result<Tally, String> {
     random_domains(1, 40_000, |random, _| {
-        let (modulus, count) = (1 + random.sized(LARGEST - 1), random_count(random, 64));
+        let (modulus, count) = (1 + random.sized(LARGEST - 1), random_count(random, 512));
         somewhere(random, modulus, count)
     })
 }
 
 fn random_large_moduli() -> Result<Tally, String> {
     random_domains(2, 10_000, |random, _| {
-        let (modulus, count) = (LARGEST - random.below(LARGEST / 2 + 1), random_count(random, 128));
+        let (modulus, count) = (LARGEST - random.below(LARGEST / 2 + 1), random_count(random, 1024));
         somewhere(random, modulus, count)
     })
 }
 
 fn curves_above_the_modulus() -> Result<Tally, String> {
     random_domains(3, 8_000, |random, _| {
-        let (modulus, count) = (1 + random.sized(MOST - 1), random_count(random, 16));
+        let (modulus, count) = (1 + random.sized(MOST - 1), random_count(random, 128));
         let size = modulus + random.below(MOST - modulus + 1);
         let window = one_of(random, &[0, 1, modulus / 5, modulus]);
         Domain { curve: signed(random, size), window, ..somewhere(random, modulus, count) }
@@ -285,7 +291,7 @@ fn curves_above_the_modulus() -> Result<Tally, String> {
 /// Slopes and values with a divisor in common with the modulus, so that the period of the covering segment is short.
 fn common_divisors() -> Result<Tally, String> {
     random_domains(4, 10_000, |random, i| {
-        let (period, count) = (2 + random.below(600), random_count(random, 32));
+        let (period, count) = (2 + random.below(600), random_count(random, 256));
         let divisor = random.sized(LARGEST / period);
         let somewhere = somewhere(random, divisor * period, count);
         let value = if i % 2 == 0 { somewhere.value } else { divisor * random.below(period) };
@@ -297,9 +303,9 @@ fn common_divisors() -> Result<Tally, String> {
 /// or beside it.
 fn hard_at_the_ends() -> Result<Tally, String> {
     random_domains(5, 20_000, |random, i| {
-        let (modulus, count) = (1 + random.sized(LARGEST - 1), random_count(random, 32));
+        let (modulus, count) = (1 + random.sized(LARGEST - 1), random_count(random, 256));
         let domain = Domain { value: 0, ..somewhere(random, modulus, count) };
-        let edge = (i % 9) as u64 * count / 8;
+        let edge = domain.starts()[i % 9];
         let x = one_of(random, &[edge.max(1) - 1, edge, edge + 1]);
         let away = one_of(random, &[0, 1, domain.window.saturating_sub(1), domain.window]);
         let wanted = one_of(random, &[away as i128, -(away as i128)]);
@@ -311,9 +317,10 @@ fn hard_at_the_ends() -> Result<Tally, String> {
 /// The windows at which the verdict on the domain, or on a part, changes.
 fn windows_where_a_verdict_changes() -> Result<Tally, String> {
     random_domains(6, 20_000, |random, i| {
-        let (modulus, count) = (1 + random.sized(LARGEST - 1), random_count(random, 32));
+        let (modulus, count) = (1 + random.sized(LARGEST - 1), random_count(random, 256));
         let domain = somewhere(random, modulus, count);
-        let of = if i % 3 == 0 { domain } else { one_of(random, &domain.parts()) };
+        let parts = domain.parts().into_iter().filter(|part| part.count > 0).collect::<Vec<_>>();
+        let of = if i % 3 == 0 { domain } else { one_of(random, &parts) };
         let covering = of.covering();
         let reached = if i % 3 == 0 { covering.regular_reached() } else { covering.fine_reached() };
         // A larger window clears no more; at the modulus nothing is clear.
@@ -325,7 +332,7 @@ fn windows_where_a_verdict_changes() -> Result<Tally, String> {
 /// Slopes of the covering segment with which a regular search goes much farther than a fine one.
 fn far_regular_searches() -> Result<Tally, String> {
     random_domains(7, 4_000, |random, _| {
-        let (modulus, count) = (1000 + random.sized(LARGEST - 1000), random_count(random, 16));
+        let (modulus, count) = (1000 + random.sized(LARGEST - 1000), random_count(random, 128));
         let near = random.sized(64);
         let slope = one_of(random, &[0, near, modulus - near, modulus / 2 + near, modulus / 3 + near]);
         Domain { slope, curve: signed(random, near % 3), ..somewhere(random, modulus, count) }
@@ -350,7 +357,7 @@ fn extreme_fields() -> Result<Tally, String> {
         let ends = [0, 1, m / 2, m - 1];
         for (value, slope) in ends.iter().flat_map(|&value| ends.map(|slope| (value, slope))) {
             let curves = [0, 1, -1, LARGEST_CURVE - 1, 1 - LARGEST_CURVE, LARGEST_CURVE, -LARGEST_CURVE];
-            for (curve, count) in curves.iter().flat_map(|&s| [8, 16, 72].map(|n| (s, n))) {
+            for (curve, count) in curves.iter().flat_map(|&s| [1, 2, 7, 8, 9, 16, 71, 72].map(|n| (s, n))) {
                 domains.extend([0, 1, m / 2, m - 1, m].map(|w| domain(m, value, slope, curve, count, w)));
             }
         }
@@ -358,7 +365,7 @@ fn extreme_fields() -> Result<Tally, String> {
     all(domains)
 }
 
-/// Count 2^20 at the ends of the other fields, where the numbers are largest.
+/// Count 2^20 at the ends of the other fields, where the numbers are largest, and counts that leave a rest just below it.
 fn largest_count() -> Result<Tally, String> {
     let m = LARGEST;
     let mut domains = vec![domain(2, 1, 1, LARGEST_CURVE, MOST, 2), domain(2, 1, 1, -LARGEST_CURVE, MOST, 1)];
@@ -371,8 +378,9 @@ fn largest_count() -> Result<Tally, String> {
     let mut random = Random(SEED + 12);
     for (curve, window) in [(1, 0), (-1, 1), (0, 1), (0, m >> 22), (2, m >> 21), (-2, m >> 21), (9, m >> 19), (-9, 0)] {
         let (value, slope) = (random.below(m - 57), random.below(m - 57));
-        domains.push(domain(m - 57, value, slope, curve, MOST, window));
+        domains.extend([MOST, MOST - 1, MOST - 7].map(|count| domain(m - 57, value, slope, curve, count, window)));
     }
+    domains.extend([LARGEST_CURVE, -LARGEST_CURVE].map(|curve| domain(m, m - 1, m - 1, curve, MOST - 1, m >> 16)));
     all(domains)
 }
 
@@ -387,7 +395,7 @@ fn random_fields_of_every_size() -> Result<Tally, String> {
             value: field(),
             slope: field(),
             curve: if i % 2 == 0 { curve } else { curve >> 44 },
-            count: if i % 4 == 0 { count } else { count & !7 },
+            count,
             window: field(),
         }
     }))
@@ -398,7 +406,7 @@ fn random_fields_of_every_size() -> Result<Tally, String> {
 fn every_set_of_refusals() -> Result<Tally, String> {
     let (mut tally, mut sets) = (Tally::default(), HashSet::new());
     let curves = [0, 5, LARGEST_CURVE, LARGEST_CURVE + 1, -LARGEST_CURVE, -LARGEST_CURVE - 1, i64::MIN, i64::MAX];
-    let counts = [0, 7, 8, 12, MOST + 8, 1 << 63, u64::MAX];
+    let counts = [0, 1, 7, 8, 12, MOST + 1, MOST + 8, 1 << 63, u64::MAX];
     for modulus in [0, 1, 2, 45, LARGEST, LARGEST + 1, 1 << 63, u64::MAX - 1] {
         let fields = [0, modulus.wrapping_sub(1), modulus, modulus + 1, u64::MAX];
         for (value, slope) in fields.iter().flat_map(|&value| fields.map(|slope| (value, slope))) {
@@ -421,25 +429,30 @@ fn every_set_of_refusals() -> Result<Tally, String> {
     }
 }
 
-/// What 01 says of the parts, of the reference's: each has the values of its stretch of the domain.
+/// What 01 and 02 say of the parts, of the reference's: each has the values of its stretch of the domain, and no one is longer than one before it
+/// or by more than one argument shorter.
 fn parts_of_the_reference() -> Result<String, String> {
     let (mut random, mut values) = (Random(SEED + 13), 0);
     for _ in 0..2_000 {
-        let (modulus, count) = (1 + random.sized(LARGEST - 1), random_count(&mut random, 64));
+        let (modulus, count) = (1 + random.sized(LARGEST - 1), random_count(&mut random, 512));
         let domain = somewhere(&mut random, modulus, count);
         let of_parts = domain.parts().into_iter().flat_map(|part| (0..part.count).map(move |x| part.value_at(x)));
         if !of_parts.eq((0..count).map(|x| domain.value_at(x))) {
             return domain.wrong("parts with other values");
+        }
+        let counts = domain.parts().map(|part| part.count);
+        if !counts.windows(2).all(|pair| pair[0] >= pair[1]) || counts[0] > counts[7] + 1 {
+            return domain.wrong("parts of other lengths");
         }
         values += count;
     }
     Ok(format!("{values} values"))
 }
 
-/// Document 01's examples that concern domains, as 02 leaves them, and some of 2.1: cleared or not, the marks and the list.
+/// Document 01's examples that concern domains, as 02 leaves them, and some of 2.1 and 2.2: cleared or not, the marks and the list.
 fn settled_examples() -> Result<Tally, String> {
     let all_eight = [0, 1, 2, 3, 4, 5, 6, 7];
-    let examples: [(&str, Domain, u64, [u8; 8], &[u32]); 7] = [
+    let examples: [(&str, Domain, u64, [u8; 8], &[u32]); 11] = [
         ("P10", domain(45, 44, 31, 0, 16, 3), 0, [2, 2, 1, 1, 1, 1, 1, 1], &[0, 3]),
         ("P11", domain(45, 0, 0, 1, 8, 1), 0, [2, 2, 1, 1, 1, 1, 1, 1], &[0, 1]),
         ("P11", domain(45, 0, 0, -1, 8, 1), 0, [2, 2, 1, 1, 1, 1, 1, 1], &[0, 1]),
@@ -447,6 +460,10 @@ fn settled_examples() -> Result<Tally, String> {
         ("2.1", domain(10, 3, 3, 0, 8, 6), 0, [2; 8], &all_eight),
         ("2.1", domain(11, 5, 0, 0, 8, 5), 1, [0; 8], &[]),
         ("2.1", domain(11, 5, 0, 0, 8, 6), 0, [2; 8], &all_eight),
+        ("2.2", domain(45, 44, 31, 0, 12, 3), 0, [2, 2, 1, 1, 1, 1, 1, 1], &[0, 3]),
+        ("2.2", domain(45, 44, 31, 0, 3, 3), 0, [2, 1, 1, 3, 3, 3, 3, 3], &[0]),
+        ("2.2", domain(45, 44, 31, 0, 1, 3), 0, [2, 3, 3, 3, 3, 3, 3, 3], &[0]),
+        ("2.2", domain(11, 5, 0, 0, 3, 5), 1, [0; 8], &[]),
     ];
     for (name, domain, cleared, marks, list) in examples {
         let shown = Shown { marks: &marks, numbers: &[cleared, list.len() as u64] };
@@ -478,7 +495,9 @@ fn settled_refusals() -> Result<Tally, String> {
         (domain(2, 0, 0, 0, 8, 0), 0),
         (domain(45, 44, 31, 0, 0, 3), 4),
         (domain(45, 44, 31, 0, 1_048_577, 3), 4),
-        (domain(45, 44, 31, 0, 12, 3), 4),
+        (domain(45, 44, 31, 0, 12, 3), 0),
+        (domain(45, 44, 31, 0, 1, 3), 0),
+        (domain(45, 9, 0, 0, 1_048_575, 9), 0),
         (domain(45, 44, 31, 0, 16, 45), 0),
         (domain(45, 44, 31, 0, 16, 46), 5),
         (domain(45, 44, 31, i64::MIN, 16, 3), 6),
@@ -708,7 +727,10 @@ fn main() {
     run.count("every small range", every_small_range());
     run.count("random ranges", random_ranges());
     run.count("longest ranges", longest_ranges());
-    let enough = domains.domains.len() >= 100_000 && domains.cleared >= 10_000 && domains.clear_parts >= 50_000;
+    let enough = domains.domains.len() >= 100_000
+        && domains.cleared >= 10_000
+        && domains.clear_parts >= 50_000
+        && domains.empty_parts >= 50_000;
     run.count("as many domains as meant", if enough { Ok(domains) } else { Err(format!("only {domains}")) });
     let enough = scans.segments.len() >= 40_000;
     run.count("as many scans as meant", if enough { Ok(scans) } else { Err(format!("only {scans}")) });

@@ -38,7 +38,8 @@ pub fn somewhere(random: &mut Random, modulus: u64, count: u64) -> Domain {
     Domain { modulus, value, slope, curve, count, window }
 }
 
-/// A count that a domain accepts, up to eight times the given number.
-pub fn random_count(random: &mut Random, eighth: u64) -> u64 {
-    8 * random.sized(eighth)
+/// A count up to the given number, which is a multiple of 8: any, or one that makes eight parts of one length.
+pub fn random_count(random: &mut Random, most: u64) -> u64 {
+    let count = random.sized(most);
+    one_of(random, &[count, count.next_multiple_of(8)])
 }

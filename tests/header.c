@@ -434,6 +434,13 @@ static void check_accepted_domains(void) {
         {"curve 1048576", {45, 0, 0, 1048576, 8, 0}, {{1, 1, 1, 1, 1, 1, 1, 1}, {0, 0}, {0}}},
         {"curve -1048576", {45, 0, 0, -1048576, 8, 0}, {{1, 1, 1, 1, 1, 1, 1, 1}, {0, 0}, {0}}},
         {"count 1048576", {45, 9, 0, 0, 1048576, 9}, {{0, 0, 0, 0, 0, 0, 0, 0}, {1, 0}, {0}}},
+        {"count 1048575", {45, 9, 0, 0, 1048575, 9}, {{0, 0, 0, 0, 0, 0, 0, 0}, {1, 0}, {0}}},
+        {"2.2, J with count 12", {45, 44, 31, 0, 12, 3}, {{2, 2, 1, 1, 1, 1, 1, 1}, {0, 2}, {0, 3}}},
+        {"2.2, J with count 3", {45, 44, 31, 0, 3, 3}, {{2, 1, 1, 3, 3, 3, 3, 3}, {0, 1}, {0}}},
+        {"2.2, J with count 1", {45, 44, 31, 0, 1, 3}, {{2, 3, 3, 3, 3, 3, 3, 3}, {0, 1}, {0}}},
+        {"2.2, count 3 cleared", {11, 5, 0, 0, 3, 5}, {{0, 0, 0, 0, 0, 0, 0, 0}, {1, 0}, {0}}},
+        {"count 15, window M", {45, 44, 31, 0, 15, 45},
+         {{2, 2, 2, 2, 2, 2, 2, 2}, {0, 15}, {0, 1, 2, 3, 4, 5, 6, 7, 8, 9, 10, 11, 12, 13, 14}}},
     };
     for (size_t i = 0; i < sizeof accepted / sizeof accepted[0]; i++) {
         check_domain(accepted[i].example, accepted[i].domain, &accepted[i].answer);
@@ -451,7 +458,6 @@ static void check_refused_domains(void) {
         {"slope M", {45, 44, 45, 0, 16, 3}, 2},
         {"value M", {45, 45, 31, 0, 16, 3}, 3},
         {"count 0", {45, 44, 31, 0, 0, 3}, 4},
-        {"count 12", {45, 44, 31, 0, 12, 3}, 4},
         {"count 1048577", {45, 44, 31, 0, 1048577, 3}, 4},
         {"count 1048584", {45, 44, 31, 0, 1048584, 3}, 4},
         {"window M + 1", {45, 44, 31, 0, 16, 46}, 5},
@@ -459,10 +465,10 @@ static void check_refused_domains(void) {
         {"curve -1048577", {45, 44, 31, -1048577, 16, 3}, 6},
         {"curve 2^63 - 1", {45, 44, 31, INT64_MAX, 16, 3}, 6},
         {"curve -2^63", {45, 44, 31, INT64_MIN, 16, 3}, 6},
-        {"nothing accepted", {1, 1, 1, 1048577, 12, 2}, 1},
-        {"only the modulus accepted", {45, 45, 45, 1048577, 12, 46}, 2},
-        {"only modulus and slope accepted", {45, 45, 31, 1048577, 12, 46}, 3},
-        {"window, curve and count not accepted", {45, 44, 31, 1048577, 12, 46}, 4},
+        {"nothing accepted", {1, 1, 1, 1048577, 0, 2}, 1},
+        {"only the modulus accepted", {45, 45, 45, 1048577, 0, 46}, 2},
+        {"only modulus and slope accepted", {45, 45, 31, 1048577, 0, 46}, 3},
+        {"window, curve and count not accepted", {45, 44, 31, 1048577, 0, 46}, 4},
         {"window and curve not accepted", {45, 44, 31, 1048577, 16, 46}, 5},
         {"curve and places not accepted", {45, 44, 31, 1048577, 16, 45}, 6},
         {"count 1048576, window 10", {45, 9, 0, 0, 1048576, 10}, 7},
@@ -476,7 +482,7 @@ static void check_domains_without_list(void) {
     const struct answer cleared = {{0}, {1, 0}, {0}};
     check_domain_into(nowhere(), "J with window 0, null", (struct domain){45, 44, 31, 0, 16, 0}, 0, &cleared);
     check_domain_into(nowhere(), "J, null", (struct domain){45, 44, 31, 0, 16, 3}, 7, NULL);
-    check_domain_into(nowhere(), "count 12, null", (struct domain){45, 44, 31, 0, 12, 3}, 4, NULL);
+    check_domain_into(nowhere(), "count 0, null", (struct domain){45, 44, 31, 0, 0, 3}, 4, NULL);
 }
 
 /* ---- the range of a list ---- */

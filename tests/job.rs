@@ -173,7 +173,7 @@ fn all(program: &str, cases: &[Case]) -> Result<Tally, String> {
     Ok(Tally::of(cases))
 }
 
-/// Document 01's examples that concern domains, as 02 leaves them, some of 2.1 and others: printed by hand, and by the reference.
+/// Document 01's examples that concern domains, as 02 leaves them, some of 2.1 and 2.2 and others: printed by hand, and by the reference.
 fn settled_examples() -> Vec<Case> {
     let j = "modulus=45\nvalue=44\nslope=31\ncurve=0\ncount=16\nwindow=3\n";
     let p11 = "first=possible\nparts=22111111\nlisted=2\nargument=0\nargument=1\n";
@@ -193,6 +193,10 @@ fn settled_examples() -> Vec<Case> {
         (Domain { modulus: 10, value: 3, slope: 3, curve: 0, count: 8, window: 2 }.text(), either_side),
         (Domain { modulus: 11, value: 5, slope: 0, curve: 0, count: 8, window: 5 }.text(), cleared),
         (Domain { modulus: 11, value: 5, slope: 0, curve: 0, count: 8, window: 6 }.text(), &all_eight),
+        (Domain { count: 12, ..J }.text(), "first=possible\nparts=22111111\nlisted=2\nargument=0\nargument=3\n"),
+        (Domain { count: 3, ..J }.text(), "first=possible\nparts=21133333\nlisted=1\nargument=0\n"),
+        (Domain { count: 1, ..J }.text(), "first=possible\nparts=23333333\nlisted=1\nargument=0\n"),
+        (Domain { modulus: 11, value: 5, slope: 0, curve: 0, count: 3, window: 5 }.text(), cleared),
     ];
     let both = |(text, output): (String, &str)| {
         let domain = reading(text.as_bytes()).unwrap();
@@ -222,9 +226,9 @@ fn ends_of_ranges() -> Vec<Case> {
     }
     cases.extend([45, 46, (1 << 32) + 31, 1 << 63, u64::MAX].map(|slope| refused(2, Domain { slope, ..J })));
     cases.extend([45, 46, (1 << 32) + 44, 1 << 63, u64::MAX].map(|value| refused(3, Domain { value, ..J })));
-    cases.extend([0, 1, 4, 7, 9, 12, 15, 17, 1_048_575].map(|count| refused(4, Domain { count, ..J })));
-    cases.extend([1_048_577, 1_048_584, (1 << 32) + 16, 1 << 63].map(|count| refused(4, Domain { count, ..J })));
-    cases.extend([8, 24, 1_048_568, 1_048_576].map(|count| accepted(Domain { count, window: 0, ..J })));
+    cases.extend([0, 1_048_577, 1_048_584, (1 << 32) + 16, 1 << 63].map(|count| refused(4, Domain { count, ..J })));
+    cases.extend((1..=40).map(|count| accepted(Domain { count, ..J })));
+    cases.extend([1_048_568, 1_048_575, 1_048_576].map(|count| accepted(Domain { count, window: 0, ..J })));
     cases.extend([46, 90, (1 << 32) + 3, 1 << 63, u64::MAX].map(|window| refused(5, Domain { window, ..J })));
     cases.extend([0, 1, 44, 45].map(|window| accepted(Domain { window, ..J })));
     for sign in [1, -1] {
@@ -274,7 +278,12 @@ fn of_conditions(set: u32, large: bool) -> Domain {
         modulus,
         slope: modulus - 1 + applies(2),
         value: modulus - 1 + applies(3),
-        count: 8 + applies(4) + applies(7) * PLACES as u64,
+        count: match (applies(4), applies(7)) {
+            (0, 0) => 8,
+            (0, _) => 8 + PLACES as u64,
+            (_, 0) => 0,
+            (_, _) => MOST + 1,
+        },
         window: if applies(5) + applies(7) == 0 { 0 } else { modulus + applies(5) },
         curve: if large { size } else { -size },
     }
@@ -285,7 +294,7 @@ fn sets_of_conditions() -> Vec<Domain> {
     let sets = (0..1 << 7).map(|set| set << 1);
     let domains = sets.flat_map(|set| [false, true].map(|large| (set, of_conditions(set, large))));
     let just = |(set, domain): (u32, Domain)| {
-        let seventh = domain.hard().len() > PLACES;
+        let seventh = (0..domain.count).filter(|&x| domain.is_hard(x)).nth(PLACES).is_some();
         let applying = (1..).zip(domain.conflicts().into_iter().chain([seventh])).filter(|(_, applies)| *applies);
         assert_eq!(applying.map(|(number, _)| 1 << number).sum::<u32>(), set, "{domain:?}");
         domain
@@ -330,11 +339,11 @@ fn full_lists() -> Vec<Case> {
     cases.extend([4097, 5000, MOST].map(|window| refused(7, Domain { window, ..even })));
     for modulus in [2, 45, LARGEST] {
         let all = Domain { modulus, window: modulus, ..P11 };
-        cases.extend([4088, 4096].map(|count| job(Domain { count, ..all })));
-        cases.extend([4104, MOST].map(|count| refused(7, Domain { count, ..all })));
+        cases.extend([4088, 4095, 4096].map(|count| job(Domain { count, ..all })));
+        cases.extend([4097, 4104, MOST].map(|count| refused(7, Domain { count, ..all })));
     }
     let mut random = Random(SEED + 3);
-    for count in [4104, 5000, 8192, 8192, 10_000, 1 << 15, 1 << 15, 1 << 16, 1 << 16, MOST] {
+    for count in [4104, 5000, 8191, 8192, 10_001, 1 << 15, 1 << 15, 1 << 16, 1 << 16, MOST] {
         let modulus = LARGEST >> random.below(20);
         let domain = somewhere(&mut random, modulus, count);
         let about = [PLACES - 1, PLACES, PLACES + 1].into_iter().filter_map(|number| with_hard(number, domain));
@@ -348,7 +357,7 @@ fn printed_numbers_of_every_length() -> Vec<Case> {
     let mut cases = Vec::new();
     for power in (0..7).map(|power| 10_u64.pow(power)) {
         // Hard at the power and just before it.
-        let (value, count) = ((2 * MOST + 1 - 2 * power) % (2 * MOST), power / 8 * 8 + 8);
+        let (value, count) = ((2 * MOST + 1 - 2 * power) % (2 * MOST), power + 1);
         cases.push(job(Domain { value, count, window: 2, ..LONGEST_LIST }));
         // An even window makes as many odd values hard, and an odd one as many even values.
         let listed = [power - 1, power, power + 1].into_iter().filter(|&listed| listed <= PLACES as u64);
@@ -370,21 +379,21 @@ fn random_jobs(own: u64, times: usize, make: impl Fn(&mut Random) -> Domain) -> 
 
 fn random_small_moduli() -> Vec<Case> {
     random_jobs(4, 700, |random| {
-        let (modulus, count) = (2 + random.below(4096), random_count(random, 32));
+        let (modulus, count) = (2 + random.below(4096), random_count(random, 256));
         somewhere(random, modulus, count)
     })
 }
 
 fn random_moduli_of_every_size() -> Vec<Case> {
     random_jobs(5, 500, |random| {
-        let (modulus, count) = (1 + random.sized(LARGEST - 1), random_count(random, 64));
+        let (modulus, count) = (1 + random.sized(LARGEST - 1), random_count(random, 512));
         somewhere(random, modulus, count)
     })
 }
 
 fn random_large_moduli() -> Vec<Case> {
     random_jobs(6, 300, |random| {
-        let (modulus, count) = (LARGEST - random.below(LARGEST / 2 + 1), random_count(random, 128));
+        let (modulus, count) = (LARGEST - random.below(LARGEST / 2 + 1), random_count(random, 1024));
         somewhere(random, modulus, count)
     })
 }
@@ -403,7 +412,8 @@ fn largest_count() -> Vec<Case> {
     random_jobs(8, 6, |random| {
         let (most, size) = (LARGEST >> one_of(random, &[14, 20, 24]), random.below(4));
         let (curve, window) = (signed(random, size), random.below(most));
-        Domain { curve, window, ..somewhere(random, LARGEST - 57, MOST) }
+        let count = MOST - random.below(9);
+        Domain { curve, window, ..somewhere(random, LARGEST - 57, count) }
     })
 }
 

@@ -223,16 +223,12 @@ pub struct Domain {
 }
 
 impl Domain {
-    /// Which of the table's conditions 1 to 6 apply.
+    /// Which of the table's conditions 1 to 6 apply: 1 to 5 are a segment's, with the slope for its step and the value for its start.
     pub fn conflicts(&self) -> [bool; 6] {
-        [
-            modulus_outside(self.modulus),
-            self.slope >= self.modulus,
-            self.value >= self.modulus,
-            !(8..=MOST).contains(&self.count) || self.count % 8 != 0,
-            self.window > self.modulus,
-            !(-LARGEST_CURVE..=LARGEST_CURVE).contains(&self.curve),
-        ]
+        let Domain { modulus, value, slope, curve, count, window } = *self;
+        let [first, second, third, fourth, fifth] =
+            Segment { modulus, step: slope, start: value, count, window }.conflicts();
+        [first, second, third, fourth, fifth, !(-LARGEST_CURVE..=LARGEST_CURVE).contains(&curve)]
     }
 
     pub fn refusal(&self) -> u32 {
@@ -291,13 +287,25 @@ impl Domain {
         }
     }
 
-    /// The eight parts, domains of their own.
+    /// Where the eight parts begin, and where the last one ends: each has the count divided by eight, rounded down, and the first ones
+    /// take one more until the rest is used up.
+    pub fn starts(&self) -> [u64; 9] {
+        let (mut starts, mut rest) = ([0; 9], self.count % 8);
+        for i in 0..8 {
+            let one_more = rest.min(1);
+            rest -= one_more;
+            starts[i + 1] = starts[i] + self.count / 8 + one_more;
+        }
+        starts
+    }
+
+    /// The eight parts, domains of their own, some of which may have no argument.
     pub fn parts(&self) -> [Domain; 8] {
-        let count = self.count / 8;
+        let starts = self.starts();
         [0, 1, 2, 3, 4, 5, 6, 7].map(|part| {
-            let h = part * count;
+            let h = starts[part];
             let slope = self.reduced(self.slope as i128 + self.curve as i128 * h as i128);
-            Domain { value: self.value_at(h), slope, count, ..*self }
+            Domain { value: self.value_at(h), slope, count: starts[part + 1] - h, ..*self }
         })
     }
 
@@ -307,13 +315,16 @@ impl Domain {
         covering.clear(&covering.regular_reached())
     }
 
-    /// The marks: all 0 where phase 1 clears the domain; else 1 for a part whose covering segment the fine search clears, and 2 for
-    /// another.
+    /// The marks: all 0 where phase 1 clears the domain; else 3 for a part without arguments, 1 for one whose covering segment the fine
+    /// search clears, and 2 for another.
     pub fn marks(&self) -> [u8; 8] {
         if self.cleared() {
             return [0; 8];
         }
         self.parts().map(|part| {
+            if part.count == 0 {
+                return 3;
+            }
             let covering = part.covering();
             if covering.clear(&covering.fine_reached()) {
                 1

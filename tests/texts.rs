@@ -248,7 +248,7 @@ fn change(random: &mut Random, text: &mut Vec<u8>) {
 pub fn changed_texts() -> Vec<Vec<u8>> {
     let mut random = Random(SEED + 1);
     let mut make = || {
-        let (modulus, count) = (1 + random.sized(LARGEST - 1), random_count(&mut random, 16));
+        let (modulus, count) = (1 + random.sized(LARGEST - 1), random_count(&mut random, 128));
         let mut text = somewhere(&mut random, modulus, count).text().into_bytes();
         for _ in 0..1 + random.below(3) {
             change(&mut random, &mut text);
