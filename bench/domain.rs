@@ -62,14 +62,20 @@ impl Domain {
         }
     }
 
-    /// The part that begins at h.
-    fn part(&self, h: u64) -> Domain {
+    /// Where the eight parts begin, and how many arguments each has.
+    fn parts(&self) -> impl Iterator<Item = (u64, u64)> {
+        let (eighth, rest) = (self.count / 8, self.count % 8);
+        (0..8).map(move |i| (i * eighth + i.min(rest), eighth + (i < rest) as u64))
+    }
+
+    /// The part with so many arguments that begins at h.
+    fn part(&self, h: u64, count: u64) -> Domain {
         let reduced = |number: i128| number.rem_euclid(self.modulus as i128) as u64;
         let (value, slope, curve, x) = (self.value as i128, self.slope as i128, self.curve as i128, h as i128);
         Domain {
             value: reduced(value + slope * x + curve * (x * (x - 1) / 2)),
             slope: reduced(slope + curve * x),
-            count: self.count / 8,
+            count,
             ..*self
         }
     }
@@ -116,12 +122,6 @@ fn compare_and_add(a: u64, b: u64, modulus: u64) -> u64 {
 fn search(domain: &Domain, list: &mut [u32], marks: &mut Marks, searched: &mut Searched) -> u32 {
     let Domain { modulus, value, slope, curve, count, window } = *domain;
     let refusal = tuned::refusal(modulus, slope, value, count, window);
-    if (1..=3).contains(&refusal) {
-        return refusal;
-    }
-    if refusal == 4 || count < 8 || count % 8 != 0 {
-        return 4;
-    }
     if refusal != 0 {
         return refusal;
     }
@@ -141,12 +141,15 @@ fn search(domain: &Domain, list: &mut [u32], marks: &mut Marks, searched: &mut S
 /// Phases 2 and 3.
 #[inline(never)]
 fn search_parts(domain: &Domain, list: &mut [u32], marks: &mut Marks, searched: &mut Searched) -> u32 {
-    let eighth = domain.count / 8;
     let (mut found, mut hard) = ([1; 8], 0);
-    for (h, mark) in (0..).step_by(eighth as usize).zip(&mut found) {
-        let part = domain.part(h);
+    for ((h, count), mark) in domain.parts().zip(&mut found) {
+        if count == 0 {
+            *mark = 3;
+            continue;
+        }
+        let part = domain.part(h, count);
         let (covering, mut shown) = (part.covering(), [0; 6]);
-        same::fine(part.modulus, covering.step, covering.start, eighth, covering.window, &mut shown);
+        same::fine(part.modulus, covering.step, covering.start, count, covering.window, &mut shown);
         if shown[5] == 0 {
             *mark = 2;
             part.scan(|_| hard += 1);
@@ -157,8 +160,8 @@ fn search_parts(domain: &Domain, list: &mut [u32], marks: &mut Marks, searched: 
     }
     if hard > 0 {
         let mut places = list.iter_mut();
-        for (h, _) in (0..).step_by(eighth as usize).zip(&found).filter(|(_, &mark)| mark == 2) {
-            domain.part(h).scan(|x| *places.next().unwrap() = (h + x) as u32);
+        for ((h, count), _) in domain.parts().zip(&found).filter(|(_, &mark)| mark == 2) {
+            domain.part(h, count).scan(|x| *places.next().unwrap() = (h + x) as u32);
         }
     }
     *marks = found;
@@ -233,13 +236,14 @@ fn is_cleared(domain: &Domain) -> bool {
     answer(proved, domain).1[0] == 1
 }
 
-/// Domains of count 2^15 with small curves of either sign, and windows such that phase 1 leaves about one of a thousand not clear.
-fn domains(number: usize) -> Vec<Domain> {
+/// Domains of a count of 2^15 or a little less with small curves of either sign, and windows such that phase 1 leaves about one of a
+/// thousand not clear.
+fn domains(number: usize, count: u64) -> Vec<Domain> {
     let small = |random: u64| (random % 17) as i64 - 8;
     common::lines(number)
         .iter()
         .map(|&[modulus, slope, value]| {
-            let domain = Domain { modulus, value, slope, curve: small(value), count: 1 << 15, window: 0 };
+            let domain = Domain { modulus, value, slope, curve: small(value), count, window: 0 };
             Domain { window: ((modulus >> 28) - domain.deviation()) / 2, ..domain }
         })
         .collect()
@@ -260,7 +264,7 @@ fn cleared_domains(domains: &[Domain]) {
 fn mixed_domains(domains: &[Domain]) {
     let mut memory = Memory::new();
     let possible = domains.iter().filter(|domain| !is_cleared(domain)).count();
-    let name = format!("domains N=2^15, {possible} of {} to phase 2", domains.len());
+    let name = format!("domains N={}, {possible} of {} to phase 2", domains[0].count, domains.len());
     measure([&name], 1, || {
         let proved = nanoseconds(domains, &mut memory, proved);
         (proved, [nanoseconds(domains, &mut memory, unverified)])
@@ -356,15 +360,16 @@ fn domain_scans() {
 }
 
 fn main() {
-    let domains = domains(DOMAINS + DOMAINS / 16);
+    let [whole, with_rest] = [1 << 15, (1 << 15) - 3].map(|count| domains(DOMAINS + DOMAINS / 16, count));
     // Unverified code that answers otherwise would not be worth a comparison.
-    for domain in &domains {
+    for domain in whole.iter().chain(&with_rest) {
         assert_eq!(answer(proved, domain), answer(unverified, domain));
     }
-    let cleared: Vec<Domain> = domains.iter().copied().filter(is_cleared).take(DOMAINS).collect();
+    let cleared: Vec<Domain> = whole.iter().copied().filter(is_cleared).take(DOMAINS).collect();
     assert_eq!(cleared.len(), DOMAINS);
     cleared_domains(&cleared);
-    mixed_domains(&domains[..DOMAINS]);
+    mixed_domains(&whole[..DOMAINS]);
+    mixed_domains(&with_rest[..DOMAINS]);
     scans();
     domain_scans();
 }

@@ -429,8 +429,8 @@ fn every_set_of_refusals() -> Result<Tally, String> {
     }
 }
 
-/// What 01 and 02 say of the parts, of the reference's: each has the values of its stretch of the domain, and no one is longer than one before it
-/// or by more than one argument shorter.
+/// What 01 and 02 say of the parts, of the reference's: each has the values of its stretch of the domain; no part is longer than one
+/// before it, and the last is at most one argument shorter than the first.
 fn parts_of_the_reference() -> Result<String, String> {
     let (mut random, mut values) = (Random(SEED + 13), 0);
     for _ in 0..2_000 {
@@ -452,7 +452,7 @@ fn parts_of_the_reference() -> Result<String, String> {
 /// Document 01's examples that concern domains, as 02 leaves them, and some of 2.1 and 2.2: cleared or not, the marks and the list.
 fn settled_examples() -> Result<Tally, String> {
     let all_eight = [0, 1, 2, 3, 4, 5, 6, 7];
-    let examples: [(&str, Domain, u64, [u8; 8], &[u32]); 11] = [
+    let examples: [(&str, Domain, u64, [u8; 8], &[u32]); 13] = [
         ("P10", domain(45, 44, 31, 0, 16, 3), 0, [2, 2, 1, 1, 1, 1, 1, 1], &[0, 3]),
         ("P11", domain(45, 0, 0, 1, 8, 1), 0, [2, 2, 1, 1, 1, 1, 1, 1], &[0, 1]),
         ("P11", domain(45, 0, 0, -1, 8, 1), 0, [2, 2, 1, 1, 1, 1, 1, 1], &[0, 1]),
@@ -463,6 +463,8 @@ fn settled_examples() -> Result<Tally, String> {
         ("2.2", domain(45, 44, 31, 0, 12, 3), 0, [2, 2, 1, 1, 1, 1, 1, 1], &[0, 3]),
         ("2.2", domain(45, 44, 31, 0, 3, 3), 0, [2, 1, 1, 3, 3, 3, 3, 3], &[0]),
         ("2.2", domain(45, 44, 31, 0, 1, 3), 0, [2, 3, 3, 3, 3, 3, 3, 3], &[0]),
+        ("2.2", domain(45, 0, 40, 1, 12, 2), 0, [2, 1, 1, 1, 1, 1, 1, 2], &[0, 11]),
+        ("2.2", domain(45, 0, 4, -1, 12, 2), 0, [2, 1, 1, 1, 1, 2, 1, 1], &[0, 9]),
         ("2.2", domain(11, 5, 0, 0, 3, 5), 1, [0; 8], &[]),
     ];
     for (name, domain, cleared, marks, list) in examples {

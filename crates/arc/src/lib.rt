@@ -1,5 +1,5 @@
 // Arcs: the parabola V(x) = (value + slope·x + curve·x(x-1)/2) mod modulus over the arguments x below count, in machine numbers. Its values and
-// slopes, and whether a search of the segment that covers it clears it. Hard is an argument of an arc where V(x) is less than the window, on one
+// slopes, and whether a search of the segment that covers it clears it. An argument of an arc is hard where V(x) is less than the window, on one
 // side. A domain and its parts are searched as arcs that are raised, so that this test is of both sides; a segment is an arc without a curve.
 ghost use mathlib.Core.Path.{_≡_};
 ghost use Rattle.expansion.specs.Reached.Search.{regular, fine};

@@ -24,7 +24,7 @@ use Rattle.domain.specs.declared.DomainAnswer.the-variants as domain-variants
 use Rattle.c_api.specs.Memory.{memory, Delivered, verdict-number, regular-memory, fine-memory, scan-memory, domain-of, domain-memory}
 
 -- searches, scans and domains return 0 exactly where all holds that is asked, of a scan or a domain also that there are places enough; another number exactly
--- where it refuses, and then the memory is as it was. The expansion returns its answer's number
+-- where that number refuses, and then the memory is as it was. The expansion returns its answer's number
 pub record Promised : Type 0 where
   pub expand-numbers : (M a n m m′ : ℕ) (us qs ks us′ qs′ ks′ : List ℕ) → answer M a .refusal ≡ 0
       → Delivered (answer M a) n (memory us qs ks m) (memory us′ qs′ ks′ m′)

@@ -123,8 +123,8 @@ pub extern "C" fn geyserdish_scan_segment(
     }
 }
 
-// domain::search_domain: returns 0 or the refusal. Marks: one for each of the eight parts. Searched: 1 for cleared or 0 for possible, and how
-// many hard arguments are in the list. All three are left as they were on a refusal.
+// domain::search_domain: returns 0 or the refusal. Marks, of the eight parts: 0 not looked at, 1 clear, 2 possible and scanned, 3 without arguments.
+// Searched: 1 for cleared or 0 for possible, and how many hard arguments are in the list. All three are left as they were on a refusal.
 #[no_mangle]
 pub extern "C" fn geyserdish_search_domain(
     modulus: u64,

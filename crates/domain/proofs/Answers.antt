@@ -2,7 +2,7 @@
 use mathlib.Core.Path.{_≡_, refl, sym, _∙_, ap}
 use mathlib.Core.List.{List, [], _∷_, _++_, map}
 use mathlib.Core.Logic.{_↔_, inl, ⊎-elim, by-cases}
-use Prim.Native.Nat.{ℕ, zero, suc, _+_, _-_, _*_, _%_, _≤_, _<_}
+use Prim.Native.Nat.{ℕ, zero, suc, _+_, _-_, _≤_, _<_}
 use native.Mathlib.Nat.{zero-add, mod-lt}
 use native.Mathlib.Decide.{ℕ-discrete}
 use native.Mathlib.Omega.{arith}
@@ -42,8 +42,8 @@ pub accepted-iff : (d : Domain) → (arc.refusal (arc-of d) ≡ 0) ↔ Accepted 
 accepted-iff d = arc-promises.promised .arcs (arc-of d) .accepted
 
 -- the parabola that the phases search is within the bounds too
-pub searched-in-range : {d : Domain} → Accepted d → In-range (centred-of d)
-searched-in-range {d} a = parabola-promises.promised .centred-correct (parabola-of d) a .in-range
+pub searched-in-range : (d : Domain) → Accepted d → In-range (centred-of d)
+searched-in-range d a = parabola-promises.promised .centred-correct (parabola-of d) a .in-range
 
 -- 0 exactly where a list has places enough
 room-iff : (xs : List ℕ) (places : ℕ) → (first-failing (room xs places) ≡ 0) ↔ (length xs ≤ places)
@@ -134,7 +134,7 @@ module _ (d : Domain) (old-marks old : List ℕ) where
         → Answered d old-marks old (domain-variants.Searched Clear 0) (replicate 8 0) old
     unfolding domain-answer marks-after list-after too-few answer-with unless-refused marks-by overwrite-front
     domain-cleared {b} e c =
-        let r : In-range (parabola b) = rw e (searched-in-range a) in
+        let r : In-range (parabola b) = rw e (searched-in-range d a) in
         let v : verdict regular (covering-of d) ≡ Clear
         = ap (λ (p : Parabola). verdict regular (covering p)) (sym e) ∙ sym (arc-promises.promised .arcs b .verdict-is regular r) ∙ c in
         let nothing : hard-arguments d ≡ [] = ap hard-list (sym e) ∙ none-listed regular b c in
@@ -144,7 +144,7 @@ module _ (d : Domain) (old-marks old : List ℕ) where
     pub searched-requires : {b : Arc} → parabola b ≡ centred-of d → arc-verdict regular b ≡ Possible
         → In-range (parabola b) × (verdict regular (covering (parabola b)) ≡ Possible)
     searched-requires {b} e c =
-        let r : In-range (parabola b) = rw e (searched-in-range a) in
+        let r : In-range (parabola b) = rw e (searched-in-range d a) in
         (r, sym (arc-promises.promised .arcs b .verdict-is regular r) ∙ c)
 
     -- phases 2 and 3 search it

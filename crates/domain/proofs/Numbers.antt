@@ -1,6 +1,6 @@
 -- Hard in a call's own numbers is hard by the definition of values, or of residues; for a domain it is to be near a multiple of the modulus. Assumes
 -- nothing.
-use mathlib.Core.Path.{_≡_, refl, ap, subst}
+use mathlib.Core.Path.{_≡_, ap, subst}
 use mathlib.Core.Logic.{_↔_, _⊎_, inl, inr, ⊎-elim, by-cases}
 use Prim.Native.Nat.{ℕ, suc, _+_, _-_, _*_, _/_, _≤_, _<_}
 use native.Mathlib.Nat.{div-add-mod'}

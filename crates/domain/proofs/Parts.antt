@@ -25,7 +25,7 @@ use Rattle.segment.specs.declared.Verdict.{Verdict}
 use Rattle.segment.specs.declared.Verdict.the-variants.{Clear, Possible}
 use Rattle.parabola.specs.Parabola.{Parabola, In-range, triangle, value-at, slope-at, is-hard, hard-list, covering, continued, part, part-start, part-count}
 use Rattle.parabola.proofs.Promises.{promised}
-use Rattle.domain.specs.Phases.{mark-of, mark-with, part-mark, part-marks, part-count-hard, part-counts, part-report, report}
+use Rattle.domain.specs.Phases.{mark-of, mark-with, part-mark, part-marks, hard-count, hard-counts, part-report, report}
 use Rattle.arc.specs.Arc.{parabola, point-answer, arc-verdict}
 use Rattle.arc.specs.declared.Arc.{Arc}
 use Rattle.arc.specs.declared.PointAnswer.the-variants.{Outside, At}
@@ -41,12 +41,14 @@ one-more i rest =
 
 -- no part begins after 2^20 arguments
 pub start-most : {N i : ℕ} → N ≤ 1048576 → i < 8 → part-start N i ≤ 1048576
-start-most {N} {i} most h = omega (arith, promised .eighths N .inside i h)
+start-most {N} {i} most h = omega (arith, promised .eight-parts N .pieces .within i (omega arith))
 
 module _ (a : Arc) (range : In-range (parabola a)) {i : ℕ} (h : i < 8) (some : 1 ≤ part-count (a .count) i) where
   -- at an argument
   begins-below : part-start (a .count) i < a .count
-  begins-below = omega (arith, promised .eighths (a .count) .inside i h, some)
+  begins-below =
+      let parts = promised .eight-parts (a .count) in
+      omega (arith, parts .next i, parts .pieces .within (suc i) h, some)
 
   pub begins-inside : point-answer a (part-start (a .count) i) ≡ Outside → ⊥
   begins-inside e = arc.promised .arcs a .outside _ .0 e range begins-below
@@ -86,7 +88,7 @@ mark-some zero v h = absurd (omega arith)
 mark-some (suc n) v h = refl
 
 -- what is found in a part without arguments
-pub empty-part : (p : Parabola) → In-range p → (i : ℕ) → part-count (p .count) i ≡ 0 → record { mark = 3; count = 0 } ≡ part-report (part p i)
+pub empty-part : (p : Parabola) → In-range p → (i : ℕ) → part-count (p .count) i ≡ 0 → record { mark = 3; hard = 0 } ≡ part-report (part p i)
 unfolding part-report continued
 empty-part p range i e = rw (mark-empty (verdict fine (covering (part p i))) e, promised .parts p range .nothing-listed i e)
 
@@ -94,11 +96,11 @@ module _ (a : Arc) (range : In-range (parabola a)) where
   mark-is : {v : Verdict} → arc-verdict fine a ≡ v → mark-with (a .count) (verdict fine (covering (parabola a))) ≡ mark-of v
   mark-is e = mark-some _ _ (range .count-low) ∙ ap mark-of (sym (arc.promised .arcs a .verdict-is fine range) ∙ e)
 
-  pub clear-part : arc-verdict fine a ≡ Clear → record { mark = 1; count = 0 } ≡ part-report (parabola a)
+  pub clear-part : arc-verdict fine a ≡ Clear → record { mark = 1; hard = 0 } ≡ part-report (parabola a)
   unfolding part-report mark-of
   clear-part e = rw (mark-is e, none-listed fine a e)
 
-  pub possible-part : {n : ℕ} → arc-verdict fine a ≡ Possible → n ≡ length (hard-list (parabola a)) → record { mark = 2; count = n } ≡ part-report (parabola a)
+  pub possible-part : {n : ℕ} → arc-verdict fine a ≡ Possible → n ≡ length (hard-list (parabola a)) → record { mark = 2; hard = n } ≡ part-report (parabola a)
   unfolding part-report mark-of
   possible-part e h = rw (mark-is e, h)
 
@@ -133,7 +135,7 @@ module _ (p : Parabola) (i : ℕ) where
 pub record Examining (p : Parabola) (marks counts : List ℕ) (total i : ℕ) : Type 0 where
   pub within : i ≤ 8
   pub marking : Writing (part-marks p) (replicate 8 0) 0 (tabulate (part-mark p) (8 - i) i) marks i
-  pub counting : Writing (part-counts p) (replicate 8 0) 0 (tabulate (part-count-hard p) (8 - i) i) counts i
+  pub counting : Writing (hard-counts p) (replicate 8 0) 0 (tabulate (hard-count p) (8 - i) i) counts i
   pub to-come : total + length (pieces-from p i) ≡ length (hard-list p)
 
 pub examine-first : {p : Parabola} → In-range p → Examining p (replicate 8 0) (replicate 8 0) 0 0
@@ -142,23 +144,23 @@ examine-first {p} d =
 
 module _ {p : Parabola} {marks counts : List ℕ} {total i : ℕ} (e : Examining p marks counts total i) where
   pub examine-next : i < 8 → {r : PartReport} → r ≡ part-report (part p i)
-      → Examining p (set marks i (r .mark)) (set counts i (r .count)) (total + r .count) (i + 1)
+      → Examining p (set marks i (r .mark)) (set counts i (r .hard)) (total + r .hard) (i + 1)
   unfolding part-report
   examine-next h {r} f =
       rw (f, add-one i)
       (record {
         within = h;
         marking = rw (add-one i) at (write-one (restate (tabulate-next (part-mark p) 8 i h) (e .marking)));
-        counting = rw (add-one i) at (write-one (restate (tabulate-next (part-count-hard p) 8 i h) (e .counting)));
+        counting = rw (add-one i) at (write-one (restate (tabulate-next (hard-count p) 8 i h) (e .counting)));
         to-come = omega (arith, e .to-come, pieces-length p i h);
       })
 
-  pub examine-done : 8 ≤ i → record { marks = marks; counts = counts; total = total } ≡ report p
+  pub examine-done : 8 ≤ i → record { marks = marks; hard = counts; total = total } ≡ report p
   unfolding report tabulate
   examine-done h =
       let f : i ≡ 8 = omega (arith, e .within) in
       let m : marks ≡ part-marks p = done (rw f at (e .marking)) .1 in
-      let c : counts ≡ part-counts p = done (rw f at (e .counting)) .1 in
+      let c : counts ≡ hard-counts p = done (rw f at (e .counting)) .1 in
       let t : total ≡ length (hard-list p) = omega (arith, rw (f, joined-none (piece p) 8) at (e .to-come)) in
       rw (m, c, t)
 

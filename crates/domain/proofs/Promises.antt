@@ -33,7 +33,7 @@ use Rattle.domain.specs.declared.DomainAnswer.the-variants as domain-var
 use Rattle.domain.specs.declared.ScanAnswer.the-variants as scan-variants
 use Rattle.domain.proofs.Answers.{searched-in-range, number-accepts, number-as-segment, scan-accepts}
 use Rattle.domain.proofs.Numbers.{hard-by-numbers, nearest, hard-in-segment}
-use Rattle.domain.proofs.Verdicts.{covering-accepted, nothing-listed, searched-parts, part-in-range, phases-correct, marks-correct}
+use Rattle.domain.proofs.Verdicts.{covering-accepted, nothing-listed, searched-parts, part-in-range, phases-correct, marks-correct, marks-as-before}
 
 parabola-correct : (d : Domain) → Parabola-correct d
 unfolding value-at triangle
@@ -137,7 +137,7 @@ module _ (d : Domain) (old-marks old : List ℕ) where
         hard = λ v n e. let r = reports v n .0 e in hard n (r .0) (r .2);
         ascends = λ v n e. let r = reports v n .0 e in
             let b = buffer (r .0) in
-            let l = parabola.promised .hard-lists (centred-of d) (searched-in-range (taken (r .0) .0) .count-high) in
+            let l = parabola.promised .hard-lists (centred-of d) (searched-in-range d (taken (r .0) .0) .count-high) in
             λ i j h k. front-ascends b (l .ascending) i j h (omega (arith, r .2));
       }
     where
@@ -165,7 +165,7 @@ module _ (d : Domain) (old-marks old : List ℕ) where
 
       hard : (n : ℕ) → domain-number d (length old) ≡ 0 → n ≡ length (hard-arguments d) → Enumerates (Hard-in-numbers d) n (take n (list-after d old))
       hard n e f =
-          let l = parabola.promised .hard-lists (centred-of d) (searched-in-range (taken e .0) .count-high) in
+          let l = parabola.promised .hard-lists (centred-of d) (searched-in-range d (taken e .0) .count-high) in
           let t : take n (list-after d old) ≡ hard-arguments d
           = ap₂ take f (searched-leaves e .1) ∙ front-taken (hard-arguments d) old in
           subst (Enumerates (Hard-in-numbers d) n) (sym t)
@@ -180,7 +180,7 @@ module _ (d : Domain) (old-marks old : List ℕ) where
           → (n ≡ 0) × (list-after d old ≡ old) × ((x : ℕ) → Hard-in-numbers d x → ⊥)
       cleared n r =
           let a = taken (r .0) .0 in
-          let z : hard-arguments d ≡ [] = nothing-listed regular (searched-in-range a) (sym (r .1)) in (
+          let z : hard-arguments d ≡ [] = nothing-listed regular (searched-in-range d a) (sym (r .1)) in (
             r .2 ∙ ap length z,
             searched-leaves (r .0) .1 ∙ nothing-over old z,
             λ x h. phases-correct a .first-none (sym (r .1)) x h,
@@ -273,13 +273,14 @@ promised =
       without-window = without-window;
       accepted = λ d. (λ a. omega arith, λ h. omega arith);
       coverings = coverings-correct;
-      eighths = λ d. parabola.promised .eighths (d .count);
+      eight-parts = λ d. parabola.promised .eight-parts (d .count);
       parts = λ d a. parabola.promised .parts (parabola-of d) a;
       centred-parts = λ d a. searched-parts a;
       differences = λ p x positive. unfold next-point in
           let v = parabola.promised .values p positive in λ j. record { value = sym (v .differences x) j; slope = sym (v .slope-differences x) j };
       phases = λ d a. phases-correct a;
       refused-as-segment = refused-as-segment;
+      marks-as-before = marks-as-before;
       domains = domain-correct;
       scans = λ M a b N w old. unfold scan-answer scan-list-after in scan-correct (segment.asked M a b N w) old;
       domain-numbers = λ v n. unfold domain-refusal domain-count domain-first in (refl, refl, refl, refl, refl, refl);

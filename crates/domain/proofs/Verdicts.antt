@@ -1,8 +1,8 @@
 -- The phases and the marks as promised. Assumes nothing.
-use mathlib.Core.Path.{_≡_, refl, sym, _∙_, ap}
+use mathlib.Core.Path.{_≡_, refl, sym, _∙_, ap, ap₂}
 use mathlib.Core.List.{List, []}
 use mathlib.Core.Logic.{_↔_, by-cases}
-use Prim.Native.Nat.{ℕ, zero, suc, _+_, _-_, _≤_, _<_}
+use Prim.Native.Nat.{ℕ, zero, suc, _+_, _-_, _*_, _/_, _%_, _≤_, _<_}
 use native.Mathlib.Decide.{decLt}
 use native.Mathlib.Omega.{arith}
 use lib.ListN.{length, getD, replicate, getD-replicate, List·getD-eq-default}
@@ -22,7 +22,8 @@ use Rattle.parabola.specs.Promise.{Parts-correct}
 use Rattle.parabola.proofs.Promises as parabola
 use Rattle.arc.specs.declared.Arc.{Arc}
 use Rattle.arc.proofs.Promises as arc
-use Rattle.domain.specs.Domain.{centred-of, part-covering, Accepted}
+use Rattle.domain.specs.Domain.{centred-of, covering-of, part-covering, Accepted}
+use Rattle.domain.specs.Answer.{marks-of}
 use Rattle.domain.specs.Phases.{mark-of, mark-with, part-mark, part-marks, marks-by}
 use Rattle.domain.specs.Promise.{None-in-part, Phases-correct, Marks-correct}
 use Rattle.domain.specs.declared.Domain.{Domain}
@@ -53,7 +54,7 @@ nothing-listed k {p} range e = none-listed k (as-arc p) (arc.promised .arcs (as-
 module _ {d : Domain} (a : Accepted d) where
   -- the parts of the parabola that the phases search
   pub searched-parts : Parts-correct (centred-of d)
-  searched-parts = parabola.promised .parts (centred-of d) (searched-in-range a)
+  searched-parts = parabola.promised .parts (centred-of d) (searched-in-range d a)
 
   pub part-in-range : (i : ℕ) → 1 ≤ part-count (d .count) i → In-range (part (centred-of d) i)
   unfolding centred
@@ -64,7 +65,7 @@ module _ {d : Domain} (a : Accepted d) where
   part-none i some e x l h =
       let y : part-start (d .count) i + (x - part-start (d .count) i) ≡ x = omega (arith, l .0) in
       cleared fine (part-in-range i some) e (x - part-start (d .count) i) (
-        omega (arith, l .0, l .1, searched-parts .length-of i),
+        omega (arith, l .0, l .1, searched-parts .length-of i, parabola.promised .eight-parts (d .count) .next i),
         omega (
           arith,
           hard-by-numbers d x a .1 h .1,
@@ -77,9 +78,9 @@ module _ {d : Domain} (a : Accepted d) where
   pub phases-correct : Phases-correct d
   phases-correct =
       record {
-        first-cleared = verdicts regular (searched-in-range a) .answered;
-        first-distance = verdicts regular (searched-in-range a) .by-distance;
-        first-none = λ e x h. cleared regular (searched-in-range a) e x (hard-by-numbers d x a .1 h);
+        first-cleared = verdicts regular (searched-in-range d a) .answered;
+        first-distance = verdicts regular (searched-in-range d a) .by-distance;
+        first-none = λ e x h. cleared regular (searched-in-range d a) e x (hard-by-numbers d x a .1 h);
         part-cleared = λ i some. verdicts fine (part-in-range i some) .answered;
         part-distance = λ i some. verdicts fine (part-in-range i some) .by-distance;
         part-none = part-none;
@@ -156,6 +157,17 @@ marks-correct {d} a Possible =
       empty = λ i h. let m = through (mark-at d i h) (mark-none _ _) in (λ e. (refl, m .0 e), λ k. m .1 (k .1));
       none-hard = λ i h e. let k = mark-clear _ _ .0 (sym (mark-at d i h) ∙ e) in part-none a i (k .0) (k .1);
       hard-in-2 = λ e i h x l n.
-          let some : 1 ≤ part-count (d .count) i = omega (arith, l .0, l .1) in
+          let some : 1 ≤ part-count (d .count) i = omega (arith, l .0, l .1, parabola.promised .eight-parts (d .count) .next i) in
           mark-at d i h ∙ mark-possible _ _ .1 (some, otherwise _ (λ c. part-none a i some c x l n));
     }
+
+-- where all parts have N/8 arguments, and at least one, a mark is by the verdict on such a part
+pub marks-as-before : (d : Domain) → Accepted d → 8 ≤ d .count → d .count % 8 ≡ 0 → verdict regular (covering-of d) ≡ Possible → (i : ℕ) → i < 8
+    → getD (marks-of d) i 0 ≡ mark-of (verdict fine (covering (continued (centred-of d) (i * (d .count / 8)) (d .count / 8))))
+unfolding marks-by centred
+marks-as-before d a low e possible i h =
+    let same = parabola.promised .eight-parts (d .count) .of-a-multiple e i in
+    ap (λ (v : Verdict). getD (marks-by v (centred-of d)) i 0) possible
+    ∙ mark-at d i h
+    ∙ mark-some _ _ (omega (arith, same .1))
+    ∙ ap₂ (λ (b n : ℕ). mark-of (verdict fine (covering (continued (centred-of d) b n)))) (same .0) (same .1)

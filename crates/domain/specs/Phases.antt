@@ -21,12 +21,12 @@ unfoldable pub mark-with : (count : ℕ) → Verdict → ℕ
 mark-with zero v = 3
 mark-with (suc n) v = mark-of v
 
--- phase 2: the fine search of a part's covering segment. The part is a parabola of its own
-abbrev pub mark-by-fine : Parabola → ℕ
-mark-by-fine q = mark-with (q .count) (verdict fine (covering q))
+-- phase 2 looks at a part, a parabola of its own: 3 where it has no argument, and else by the fine search of its covering segment
+abbrev pub mark-of-part : Parabola → ℕ
+mark-of-part q = mark-with (q .count) (verdict fine (covering q))
 
 abbrev pub part-mark : Parabola → (i : ℕ) → ℕ
-part-mark p i = mark-by-fine (part p i)
+part-mark p i = mark-of-part (part p i)
 
 abbrev pub part-marks : Parabola → List ℕ
 part-marks p = tabulate (part-mark p) 8 0
@@ -41,18 +41,18 @@ abbrev pub marks : Parabola → List ℕ
 marks p = marks-by (verdict regular (covering p)) p
 
 -- phase 3: how many hard arguments each part has
-abbrev pub part-count-hard : Parabola → (i : ℕ) → ℕ
-part-count-hard p i = length (hard-list (part p i))
+abbrev pub hard-count : Parabola → (i : ℕ) → ℕ
+hard-count p i = length (hard-list (part p i))
 
-abbrev pub part-counts : Parabola → List ℕ
-part-counts p = tabulate (part-count-hard p) 8 0
+abbrev pub hard-counts : Parabola → List ℕ
+hard-counts p = tabulate (hard-count p) 8 0
 
 -- ---- what is known of the parts before anything is listed
 
 -- of one, given as a parabola of its own
 unfoldable pub part-report : Parabola → PartReport
-part-report q = record { mark = mark-by-fine q; count = length (hard-list q) }
+part-report q = record { mark = mark-of-part q; hard = length (hard-list q) }
 
 -- of all
 unfoldable pub report : Parabola → Report
-report p = record { marks = part-marks p; counts = part-counts p; total = length (hard-list p) }
+report p = record { marks = part-marks p; hard = hard-counts p; total = length (hard-list p) }

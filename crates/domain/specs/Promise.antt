@@ -10,7 +10,7 @@ use lib.ListN.{length, getD, take}
 use Rattle.numbers.specs.Checklist.{Condition, condition, Refused-by}
 use Rattle.numbers.specs.Integers.{_modulo_}
 use Rattle.numbers.specs.Lists.{overwrite-front}
-use Rattle.numbers.specs.Promise.{Enumerates, Buffer-correct}
+use Rattle.numbers.specs.Promise.{Enumerates, In-piece, Buffer-correct}
 use Rattle.expansion.specs.Reached.{Search}
 use Rattle.expansion.specs.Reached.Search.{regular, fine}
 use Rattle.geometry.specs.Segment.{Segment}
@@ -20,9 +20,10 @@ use Rattle.segment.specs.Search.{distance, verdict}
 use Rattle.segment.specs.Promise as segment-promise
 use Rattle.segment.specs.declared.Verdict.{Verdict}
 use Rattle.segment.specs.declared.Verdict.the-variants.{Clear, Possible}
-use Rattle.parabola.specs.Parabola.{Parabola, value-at, slope-at, second-difference, part-start, part-count, part}
-use Rattle.parabola.specs.Promise.{Values-correct, Covers-both-by, Covering-both-correct, Centred-correct, Eighths-correct, Parts-correct}
+use Rattle.parabola.specs.Parabola.{Parabola, value-at, slope-at, second-difference, covering, continued, part-start, part-count, part}
+use Rattle.parabola.specs.Promise.{Values-correct, Covers-both-by, Covering-both-correct, Centred-correct, Eight-parts-correct, Parts-correct}
 use Rattle.domain.specs.Domain.{parabola-of, centred-of, hard-arguments, covering-of, part-covering, Accepted}
+use Rattle.domain.specs.Phases.{mark-of}
 use Rattle.domain.specs.Scan.{next-point}
 use Rattle.domain.specs.Answer.{domain-answer, marks-of, marks-after, list-after, domain-refusal, domain-first, domain-count, scan-answer, scan-list-after, scan-refusal, scan-count}
 use Rattle.domain.specs.declared.Domain.{Domain}
@@ -64,7 +65,7 @@ Hard-in-segment M a b N w x = (x < N) × ((r : ℕ) × (r < M) × (r < w) × ((k
 
 -- ---- the covering segments
 
--- the covering segments of a domain and of its parts, on both sides and in the call's own numbers: a part that begins at h and has n arguments (`Eighths-correct`)
+-- the covering segments of a domain and of its parts, on both sides and in the call's own numbers: a part that begins at h and has n arguments (`Eight-parts-correct`)
 -- has the value V(h) and the slope (c1 + s·h) mod M. The searches accept them where there is an argument
 pub record Coverings-correct (d : Domain) : Type 0 where
   pub whole : Covers-both-by (d .modulus) (d .value) (d .slope) (d .curve) (d .count) (d .window) (covering-of d)
@@ -88,9 +89,9 @@ pub record Without-window (d : Domain) : Type 0 where
 abbrev pub Cleared-by : Search → Segment → Type 0
 Cleared-by k s = segment-promise.Cleared k (s .unit) (s .step) (s .start) (s .count) (s .window)
 
--- an argument is in the part i
+-- an argument is in the part i: from its beginning on, and before that of the next
 abbrev pub In-part : Domain → (i x : ℕ) → Type 0
-In-part d i x = (part-start (d .count) i ≤ x) × (x < part-start (d .count) i + part-count (d .count) i)
+In-part d i x = In-piece (part-start (d .count)) i x
 
 -- no argument of the part i is hard
 abbrev pub None-in-part : Domain → (i : ℕ) → Type 0
@@ -108,7 +109,7 @@ pub record Phases-correct (d : Domain) : Type 0 where
   pub part-none : (i : ℕ) → 1 ≤ part-count (d .count) i → verdict fine (part-covering d i) ≡ Clear → None-in-part d i
 
 -- the eight marks: 0 exactly where phase 1 clears the domain, and so all of them. Where it does not, 3 exactly where the part has no argument, and of the others 1
--- exactly where the part is clear, and then no argument of it is hard, 2 exactly where it is possible: every hard argument is in a part marked 2
+-- exactly where the part is clear, and then no argument of it is hard, 2 exactly where it is possible: a part that has a hard argument is marked 2
 pub record Marks-correct (d : Domain) (first : Verdict) (marks : List ℕ) : Type 0 where
   pub eight : length marks ≡ 8
   pub at-most-3 : (i : ℕ) → getD marks i 0 ≤ 3
@@ -200,7 +201,7 @@ pub record Promised : Type 0 where
   pub without-window : (d : Domain) → Accepted d → d .window ≡ 0 → Without-window d
   pub coverings : (d : Domain) → Accepted d → Coverings-correct d
   -- where parts begin and how long they are; the parts of a domain; and those of the parabola that the phases search, whose lists make up the list of the domain
-  pub eighths : (d : Domain) → Eighths-correct (d .count)
+  pub eight-parts : (d : Domain) → Eight-parts-correct (d .count)
   pub parts : (d : Domain) → Accepted d → Parts-correct (parabola-of d)
   pub centred-parts : (d : Domain) → Accepted d → Parts-correct (centred-of d)
   -- a scan goes from the value and the slope at x to those at x + 1
@@ -212,6 +213,10 @@ pub record Promised : Type 0 where
   pub refused-as-segment : (d : Domain) (places n : ℕ) → 1 ≤ n → n ≤ 5
       → (domain-answer d places ≡ domain-variants.Refused n)
       ↔ (segment.refusal (segment.asked (d .modulus) (d .slope) (d .value) (d .count) (d .window)) ≡ n)
+  -- counts that were accepted before document 02's 2.2, the multiples of 8 from 8 on, have the marks of before: by the verdict on each of eight parts of N/8
+  -- arguments, of which none is without arguments
+  pub marks-as-before : (d : Domain) → Accepted d → 8 ≤ d .count → d .count % 8 ≡ 0 → verdict regular (covering-of d) ≡ Possible → (i : ℕ) → i < 8
+      → getD (marks-of d) i 0 ≡ mark-of (verdict fine (covering (continued (centred-of d) (i * (d .count / 8)) (d .count / 8))))
   pub domains : (d : Domain) (old-marks old : List ℕ)
       → Domain-correct d old-marks old (domain-answer d (length old)) (marks-after d (length old) old-marks) (list-after d old)
   pub scans : (M a b N w : ℕ) (old : List ℕ)

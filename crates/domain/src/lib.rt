@@ -158,8 +158,8 @@ fn search_parts(arc: Arc, marks: &mut [u8; 8], list: &mut [u32]) -> DomainAnswer
     }
     let found = report.marks;
     *marks = found;
-    let counts = report.counts;
-    list_parts(arc, counts, list);
+    let hard = report.hard;
+    list_parts(arc, hard, list);
     DomainAnswer::Searched {
         first: segment::Verdict::Possible,
         listed: report.total,

@@ -7,7 +7,7 @@ ghost use lib.Seq.{sets};
 ghost use Rattle.numbers.specs.Lists.{overwrite-front};
 ghost use Rattle.parabola.specs.Parabola.{In-range, hard-list, part, part-start, part-count};
 ghost use Rattle.arc.specs.Arc.{parabola};
-ghost use Rattle.domain.specs.Phases.{part-report, part-counts, report};
+ghost use Rattle.domain.specs.Phases.{part-report, hard-counts, report};
 use crate::scan::count_hard;
 use crate::scan::list_hard;
 use arc::Arc;
@@ -16,13 +16,13 @@ use numbers::min;
 // Of a part: its mark, and how many hard arguments it has.
 struct PartReport {
     mark: u8,
-    count: u32,
+    hard: u32,
 }
 
 // Of all parts: the marks, how many hard arguments each has, and how many they have together.
 pub(crate) struct Report {
     pub(crate) marks: [u8; 8],
-    pub(crate) counts: [u32; 8],
+    pub(crate) hard: [u32; 8],
     pub(crate) total: u32,
 }
 
@@ -43,7 +43,7 @@ fn part_count(count: u64, i: u64) -> u64
     count / 8 + (i < count % 8) as u64
 }
 
-// A part with arguments is an arc. It begins at one of them, so that it is never outside.
+// A part with arguments is an arc of its own. It begins at an argument of the whole, so that the point there is never outside.
 fn part(arc: Arc, i: u64) -> Arc
     requires { ⌜ In-range (parabola arc) ⌝ }
     requires { ⌜ i < 8 ⌝ }
@@ -70,14 +70,14 @@ fn examine_part(arc: Arc, i: u64) -> PartReport
     ensures { λ r. ⌜ r ≡ part-report (part (parabola arc) i) ⌝ }
 {
     if part_count(arc.count, i) == 0 {
-        return PartReport { mark: 3, count: 0 };
+        return PartReport { mark: 3, hard: 0 };
     }
     let part = part(arc, i);
     match arc::fine_verdict(part) {
-        segment::Verdict::Clear => PartReport { mark: 1, count: 0 },
+        segment::Verdict::Clear => PartReport { mark: 1, hard: 0 },
         segment::Verdict::Possible => PartReport {
             mark: 2,
-            count: count_hard(part),
+            hard: count_hard(part),
         },
     }
 }
@@ -87,41 +87,41 @@ pub(crate) fn examine_parts(arc: Arc) -> Report
     ensures { λ r. ⌜ r ≡ report (parabola arc) ⌝ }
 {
     let mut marks = [0u8; 8];
-    let mut counts = [0u32; 8];
+    let mut hard = [0u32; 8];
     let mut total: u32 = 0;
     let mut i: usize = 0;
     while i < 8 {
         let examined = examine_part(arc, i as u64);
         marks[i] = examined.mark;
-        counts[i] = examined.count;
-        total = total + examined.count;
+        hard[i] = examined.hard;
+        total = total + examined.hard;
         i = i + 1;
     }
     Report {
         marks: marks,
-        counts: counts,
+        hard: hard,
         total: total,
     }
 }
 
 // The second half of phase 3, once it is known that the list has room for all.
-pub(crate) fn list_parts(arc: Arc, counts: [u32; 8], list: &mut [u32])
+pub(crate) fn list_parts(arc: Arc, hard: [u32; 8], list: &mut [u32])
     requires { ⌜ In-range (parabola arc) ⌝ }
-    requires { ⌜ counts ≡ part-counts (parabola arc) ⌝ }
+    requires { ⌜ hard ≡ hard-counts (parabola arc) ⌝ }
     requires { ⌜ length (hard-list (parabola arc)) ≤ length (now list) ⌝ }
     ensures { λ _. ⌜ now (list .exit) ≡ overwrite-front (hard-list (parabola arc)) (now (list .entry)) ⌝ }
 {
     let mut place: usize = 0;
     let mut i: usize = 0;
     while i < 8 {
-        let number = counts[i];
+        let number = hard[i];
         list_part(arc, i as u64, number, list, place);
         place = place + number as usize;
         i = i + 1;
     }
 }
 
-// A part without hard arguments, and so one without any, is not scanned again.
+// A part without hard arguments has nothing to list, and is not made.
 fn list_part(arc: Arc, i: u64, number: u32, list: &mut [u32], place: usize)
     requires { ⌜ In-range (parabola arc) ⌝ }
     requires { ⌜ i < 8 ⌝ }

@@ -2,7 +2,7 @@
 use mathlib.Core.Path.{_≡_, refl, _∙_, ap}
 use mathlib.Core.Logic.{Dec·and}
 use Prim.Native.Nat.{ℕ, _≤_}
-use native.Mathlib.Decide.{decLe, decLt, ℕ-discrete}
+use native.Mathlib.Decide.{decLe, decLt}
 use native.Mathlib.Omega.{arith}
 use Rattle.numbers.specs.Checklist.{first-failing, unless-refused}
 use Rattle.numbers.specs.Integers.{_modulo_}
@@ -31,7 +31,7 @@ use Rattle.job.specs.Output.{verdict-name, argument-lines, refused, report, pri
 use Rattle.examples.specs.Settled.{Regular-shows, Fine-shows, Example-1, Example-6, Example-7, Example-8, Example-9, Example-10, Example-11, Both-sides, Any-length, Settled}
 
 example-1 : Example-1
-unfolding decLe decLt Dec·and ℕ-discrete ranged first-failing rows-from expansion zero-padded refusal answer-with answer regular-from regular parts-from fine-from fine
+unfolding decLe decLt Dec·and ranged first-failing rows-from expansion zero-padded refusal answer-with answer regular-from regular parts-from fine-from fine
 example-1 =
     record {
       remainders-are = refl;
@@ -85,7 +85,7 @@ example-8 =
 -- ---- scans and domains
 
 example-9 : Example-9
-unfolding decLe decLt Dec·and ℕ-discrete ranged first-failing unless-refused filter-range overwrite-front residue geometry.is-hard geometry.hard-list scan-number scan-answer-with scan-answer scan-list-after
+unfolding decLe decLt Dec·and ranged first-failing unless-refused filter-range overwrite-front residue geometry.is-hard geometry.hard-list scan-number scan-answer-with scan-answer scan-list-after
 example-9 =
     record {
       hard-6 = refl;
@@ -102,7 +102,7 @@ example-9 =
     }
 
 domains : Example-10 × Example-11 × Both-sides × Any-length
-unfolding decLe decLt Dec·and ℕ-discrete ranged first-failing unless-refused rows-from expansion regular-from regular parts-from fine-from fine configurations-of reached-in reached residue least-from argument distance verdict-at filter-range tabulate overwrite-front _modulo_ triangle value-at slope-at parabola.is-hard parabola.hard-list parabola.centred spread covering-step start-over covering-start covering-window continued part-count part-start mark-of mark-with marks-by domain-number domain-answer-with domain-answer marks-after list-after decimal-within decimal starts takes-digit digits-from number-from field-at unsigned opposite signed-from signed-field-at rest-from reading verdict-name argument-lines refused report printed-for printed output-with output-of
+unfolding decLe decLt Dec·and ranged first-failing unless-refused rows-from expansion regular-from regular parts-from fine-from fine configurations-of reached-in reached residue least-from argument distance verdict-at filter-range tabulate overwrite-front _modulo_ triangle value-at slope-at parabola.is-hard parabola.hard-list parabola.centred spread covering-step start-over covering-start covering-window continued part-count part-start mark-of mark-with marks-by domain-number domain-answer-with domain-answer marks-after list-after decimal-within decimal starts takes-digit digits-from number-from field-at unsigned opposite signed-from signed-field-at rest-from reading verdict-name argument-lines refused report printed-for printed output-with output-of
 domains = (
   record { prints = refl; read = refl; answered = refl; marks = λ old. refl; left = λ x y z. refl; covered = refl; too-few = refl; left-too-few = λ x. refl },
   record {
@@ -147,15 +147,23 @@ domains = (
     left-12 = λ x y z. refl;
     marks-3 = λ old. refl;
     left-3 = λ x y. refl;
+    rising = refl;
+    rising-marks = λ old. refl;
+    rising-left = λ x y. refl;
+    falling = refl;
+    falling-marks = λ old. refl;
+    falling-left = λ x y. refl;
+    prints-cleared = refl;
     cleared-3 = refl;
     cleared-3-marks = λ old. refl;
+    prints-refused = refl;
     refused-0 = refl;
     refused-more = refl;
   },
 )
 
 pub settled : Settled
-unfolding decLe decLt Dec·and ℕ-discrete ranged first-failing segments.refusal rows-from expansion regular-from regular parts-from fine-from fine configurations-of reached-in reached residue least-from argument distance verdict-at regular-shown fine-shown regular-answer-with fine-answer-with regular-answer fine-answer
+unfolding decLe decLt Dec·and ranged first-failing segments.refusal rows-from expansion regular-from regular parts-from fine-from fine configurations-of reached-in reached residue least-from argument distance verdict-at regular-shown fine-shown regular-answer-with fine-answer-with regular-answer fine-answer
 settled =
     record {
       p1 = example-1;

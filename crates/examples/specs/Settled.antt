@@ -208,6 +208,13 @@ pub record Both-sides : Type 0 where
 
 -- ---- domains of any length (2.2)
 
+-- parabolas with 12 arguments and a window of 2
+abbrev pub rising-12 : Domain
+rising-12 = record { modulus = 45; value = 0; slope = 40; curve = pos 1; count = 12; window = 2 }
+
+abbrev pub falling-12 : Domain
+falling-12 = record { modulus = 45; value = 0; slope = 4; curve = negsuc 0; count = 12; window = 2 }
+
 pub record Any-length : Type 0 where
   -- eight parts of 12 arguments: the first four have two, the others one
   pub starts-of-12 : tabulate (part-start 12) 8 0 ≡ 0 ∷ 2 ∷ 4 ∷ 6 ∷ 8 ∷ 9 ∷ 10 ∷ 11 ∷ []
@@ -224,10 +231,20 @@ pub record Any-length : Type 0 where
   pub left-12 : (x y z : ℕ) → list-after (J-of 12) (x ∷ y ∷ z ∷ []) ≡ 0 ∷ 3 ∷ z ∷ []
   pub marks-3 : (old : List ℕ) → marks-after (J-of 3) 1 old ≡ 2 ∷ 1 ∷ 1 ∷ 3 ∷ 3 ∷ 3 ∷ 3 ∷ 3 ∷ []
   pub left-3 : (x y : ℕ) → list-after (J-of 3) (x ∷ y ∷ []) ≡ 0 ∷ y ∷ []
+  -- hard arguments in longer and in shorter parts; a part's own D is that of its own length: with two arguments the part 6 would not be clear
+  pub rising : domain-answer rising-12 2 ≡ domain-variants.Searched Possible 2
+  pub rising-marks : (old : List ℕ) → marks-after rising-12 2 old ≡ 2 ∷ 1 ∷ 1 ∷ 1 ∷ 1 ∷ 1 ∷ 1 ∷ 2 ∷ []
+  pub rising-left : (x y : ℕ) → list-after rising-12 (x ∷ y ∷ []) ≡ 0 ∷ 11 ∷ []
+  pub falling : domain-answer falling-12 2 ≡ domain-variants.Searched Possible 2
+  pub falling-marks : (old : List ℕ) → marks-after falling-12 2 old ≡ 2 ∷ 1 ∷ 1 ∷ 1 ∷ 1 ∷ 2 ∷ 1 ∷ 1 ∷ []
+  pub falling-left : (x y : ℕ) → list-after falling-12 (x ∷ y ∷ []) ≡ 0 ∷ 9 ∷ []
   -- a domain of 3 arguments that is cleared is not looked at in parts, whether they have arguments or not
+  pub prints-cleared : output-of (bytes "modulus=11\nvalue=5\nslope=0\ncurve=0\ncount=3\nwindow=5\n")
+      ≡ bytes "first=cleared\nparts=00000000\nlisted=0\n"
   pub cleared-3 : domain-answer (constant-of 3 5 5) 0 ≡ domain-variants.Searched Clear 0
   pub cleared-3-marks : (old : List ℕ) → marks-after (constant-of 3 5 5) 0 old ≡ replicate 8 0
   -- no argument, and too many
+  pub prints-refused : output-of (bytes "modulus=45\nvalue=44\nslope=31\ncurve=0\ncount=0\nwindow=3\n") ≡ bytes "refused=4\n"
   pub refused-0 : domain-answer (J-of 0) 4096 ≡ domain-variants.Refused 4
   pub refused-more : domain-answer (J-of 1048577) 4096 ≡ domain-variants.Refused 4
 

@@ -9,7 +9,7 @@ use native.Mathlib.Nat.{zero-add}
 use native.Mathlib.Decide.{decLt, ℕ-discrete}
 use native.Mathlib.Omega.{arith}
 use Rattle.numbers.specs.Lists.{filter-range, joined}
-use Rattle.numbers.specs.Promise.{Cuts, In-piece, Pieces-correct}
+use Rattle.numbers.specs.Promise.{Starts, In-piece, Pieces-correct}
 use Rattle.numbers.proofs.Selections.{filter-none, filter-joined}
 
 pub joined-none : (f : ℕ → List ℕ) (i : ℕ) → joined f 0 i ≡ []
@@ -23,9 +23,9 @@ joined-next f n i h =
     let left : n - i ≡ suc (n - suc i) = omega arith in
     rw left
 
--- ---- starts that ascend
+-- ---- starts of pieces
 
-module _ (start : ℕ → ℕ) (pieces : ℕ) (ascend : (i : ℕ) → i < pieces → start i ≤ start (suc i)) where
+module _ (start : ℕ → ℕ) (pieces : ℕ) (next : (i : ℕ) → i < pieces → start i ≤ start (suc i)) where
   -- a later one is not less
   starts-ascend : (i n : ℕ) → i + n ≤ pieces → start i ≤ start (i + n)
   starts-ascend i zero h =
@@ -33,7 +33,7 @@ module _ (start : ℕ → ℕ) (pieces : ℕ) (ascend : (i : ℕ) → i < pieces
       omega (arith, ap start e)
   starts-ascend i (suc n) h =
       let e : i + suc n ≡ suc (i + n) = omega arith in
-      omega (arith, ap start e, ascend (i + n) (omega arith), starts-ascend i n (omega arith))
+      omega (arith, ap start e, next (i + n) (omega arith), starts-ascend i n (omega arith))
 
   later-start : (i j : ℕ) → i ≤ j → j ≤ pieces → start i ≤ start j
   later-start i j h k =
@@ -67,7 +67,7 @@ module _ (start : ℕ → ℕ) (pieces : ℕ) (ascend : (i : ℕ) → i < pieces
       sym (ap (λ (k : ℕ). filter-range p k (start i)) z ∙ filter-none p (start i))
   pieces-filter p (suc n) i h =
       let e : i + suc n ≡ suc i + n = omega arith in
-      let own : start (suc i) ≡ start i + (start (suc i) - start i) = omega (arith, ascend i (omega arith)) in
+      let own : start (suc i) ≡ start i + (start (suc i) - start i) = omega (arith, next i (omega arith)) in
       let k : start (i + suc n) - start i ≡ (start (suc i) - start i) + (start (suc i + n) - start (suc i))
       = omega (arith, ap start e, own, starts-ascend (suc i) n (omega arith)) in
       ap (λ (xs : List ℕ). filter-range p (start (suc i) - start i) (start i) ++ xs)
@@ -75,13 +75,13 @@ module _ (start : ℕ → ℕ) (pieces : ℕ) (ascend : (i : ℕ) → i < pieces
       ∙ sym (filter-joined p (start (suc i) - start i) (start (suc i + n) - start (suc i)) (start i))
       ∙ ap (λ (l : ℕ). filter-range p l (start i)) (sym k)
 
-pub pieces-correct : (start : ℕ → ℕ) (pieces total : ℕ) → Cuts start pieces total → Pieces-correct start pieces total
+pub pieces-correct : (start : ℕ → ℕ) (pieces total : ℕ) → Starts start pieces total → Pieces-correct start pieces total
 pieces-correct start pieces total c =
     record {
-      once = λ x h. let r = some-piece start pieces (c .ascend) (c .first) pieces x (omega arith) (omega (arith, c .last, h)) in
-          (r .0, r .1, r .2, λ j k q. one-piece start pieces (c .ascend) (r .0) j x (r .1) k (r .2) q);
-      inside = λ i h x p. omega (arith, p .1, later-start start pieces (c .ascend) (suc i) pieces h (omega arith), c .last);
-      ordered = ordered start pieces (c .ascend);
-      lists = λ p. pieces-filter start pieces (c .ascend) p pieces 0 (omega arith)
+      once = λ x h. let r = some-piece start pieces (c .not-after-next) (c .first) pieces x (omega arith) (omega (arith, c .last, h)) in
+          (r .0, r .1, r .2, λ j k q. one-piece start pieces (c .not-after-next) (r .0) j x (r .1) k (r .2) q);
+      within = λ i h. omega (arith, later-start start pieces (c .not-after-next) i pieces h (omega arith), c .last);
+      ordered = ordered start pieces (c .not-after-next);
+      lists = λ p. pieces-filter start pieces (c .not-after-next) p pieces 0 (omega arith)
           ∙ ap₂ (filter-range p) (omega (arith, c .last, c .first, ap start (zero-add pieces))) (c .first);
     }

@@ -1,12 +1,14 @@
 -- All that is promised of the definitions that other crates' promises cite. Assumes nothing.
 use mathlib.Core.Path.{refl}
+use mathlib.Core.Bool.{Bool}
 use mathlib.Core.Logic.{inl, inr, ⊎-elim}
+use Prim.Native.Nat.{ℕ}
 use native.Mathlib.Nat.{mod-zero}
 use native.Mathlib.Omega.{arith}
 use Rattle.numbers.specs.Checklist.{unless-refused}
 use Rattle.numbers.specs.Integers.{_modulo_}
-use Rattle.numbers.specs.Lists.{count-if, joined}
-use Rattle.numbers.specs.Promise.{Conditions-correct, Buffers-correct, Promised}
+use Rattle.numbers.specs.Lists.{filter-range, count-if, tabulate, joined}
+use Rattle.numbers.specs.Promise.{Conditions-correct, Selection-correct, Buffers-correct, Promised}
 use Rattle.numbers.proofs.Checklists.{refuses, accepts}
 use Rattle.numbers.proofs.Integers.{mod-below, mod-multiple}
 use Rattle.numbers.proofs.Pieces.{pieces-correct}
@@ -26,8 +28,20 @@ conditions-correct =
       numbered = λ k P cs. (λ h. h, λ h. h);
     }
 
+selection-correct : (property : ℕ → Bool) → Selection-correct property
+unfolding filter-range count-if
+selection-correct p =
+    record {
+      none-left = λ x. refl;
+      taken = λ n x e. rw e;
+      passed = λ n x e. rw e;
+      none-counted = λ x. refl;
+      counted = λ n x e. rw e (omega arith);
+      not-counted = λ n x e. rw e (omega arith);
+    }
+
 buffers-correct : Buffers-correct
-unfolding unless-refused joined
+unfolding unless-refused
 buffers-correct =
     record {
       front = front-correct;
@@ -36,8 +50,6 @@ buffers-correct =
       room = λ at xs old h. omega arith;
       no-room = λ at xs old l h. omega arith;
       beyond = λ at xs old h. omega arith;
-      no-list = λ f i. refl;
-      list-more = λ f n i. refl;
     }
 
 pub promised : Promised
@@ -48,7 +60,8 @@ promised =
       checklists = λ cs. record { refuses = refuses cs; accepts = accepts cs };
       remainders = λ z M. record { in-range = λ positive. mod-below positive z; multiple = λ positive. mod-multiple positive z };
       remainders-by-zero = λ n. (mod-zero n, omega arith);
-      counts = λ p. unfold count-if in record { none-left = λ x. refl; counted = λ n x e. rw e (omega arith); passed = λ n x e. rw e (omega arith) };
+      selections = selection-correct;
+      sequences = unfold tabulate joined in record { no-value = λ f i. refl; value-more = λ f n i. refl; no-list = λ f i. refl; list-more = λ f n i. refl };
       pieces = pieces-correct;
       buffers = buffers-correct;
     }

@@ -1,5 +1,5 @@
--- What is promised of the definitions that the promises of other crates cite, and the statements on lists, buffers and divisors that those promises
--- make. `Promised`, at the end, is all that holds here; proofs/Promises.antt proves it.
+-- What is promised of the definitions that the promises of other crates cite, and the statements on lists, pieces of a stretch, buffers and divisors that those
+-- promises make. `Promised`, at the end, is all that holds here; proofs/Promises.antt proves it.
 -- Assumes nothing: these are statements.
 use mathlib.Core.Path.{_≡_}
 use mathlib.Core.Bool.{Bool, true, false}
@@ -10,7 +10,7 @@ use lib.IntN.{ℤ, pos, negsuc, _+ℤ_, _*ℤ_}
 use lib.ListN.{length, getD}
 use Rattle.numbers.specs.Checklist.{Condition, Check, condition, check, conditions, first-failing, All-hold, Refused-by, Numbered, unless-refused}
 use Rattle.numbers.specs.Integers.{_modulo_}
-use Rattle.numbers.specs.Lists.{filter-range, count-if, joined, overwrite-front, place-after}
+use Rattle.numbers.specs.Lists.{filter-range, count-if, tabulate, joined, overwrite-front, place-after}
 
 -- ---- refusals
 
@@ -56,30 +56,40 @@ pub record Enumerates (holds : (x : ℕ) → Type 0) (number : ℕ) (xs : List �
   pub fits : (x : ℕ) → List·Memᴰ x xs → x < 2 ^ 32
   pub counted : length xs ≡ number
 
--- how many of the numbers from x on have a property, as many as are left: one more where x has it
-pub record Counts-correct (property : ℕ → Bool) : Type 0 where
-  pub none-left : (x : ℕ) → count-if property 0 x ≡ 0
+-- which of the numbers from x on have a property, as many as are left, and how many they are: x and one more where x has it
+pub record Selection-correct (property : ℕ → Bool) : Type 0 where
+  pub none-left : (x : ℕ) → filter-range property 0 x ≡ []
+  pub taken : (n x : ℕ) → property x ≡ true → filter-range property (suc n) x ≡ x ∷ filter-range property n (suc x)
+  pub passed : (n x : ℕ) → property x ≡ false → filter-range property (suc n) x ≡ filter-range property n (suc x)
+  pub none-counted : (x : ℕ) → count-if property 0 x ≡ 0
   pub counted : (n x : ℕ) → property x ≡ true → count-if property (suc n) x ≡ suc (count-if property n (suc x))
-  pub passed : (n x : ℕ) → property x ≡ false → count-if property (suc n) x ≡ count-if property n (suc x)
+  pub not-counted : (n x : ℕ) → property x ≡ false → count-if property (suc n) x ≡ count-if property n (suc x)
+
+-- a function's values, and its lists, one after another
+pub record Sequences-correct : Type 0 where
+  pub no-value : (f : ℕ → ℕ) (i : ℕ) → tabulate f 0 i ≡ []
+  pub value-more : (f : ℕ → ℕ) (n i : ℕ) → tabulate f (suc n) i ≡ f i ∷ tabulate f n (suc i)
+  pub no-list : (f : ℕ → List ℕ) (i : ℕ) → joined f 0 i ≡ []
+  pub list-more : (f : ℕ → List ℕ) (n i : ℕ) → joined f (suc n) i ≡ f i ++ joined f n (suc i)
 
 -- ---- pieces of a stretch
 
--- so many pieces make up the numbers below a total, one after another: the piece i goes from its start to the next one's, and the starts ascend from 0 to the
--- total. A piece may have no number
-pub record Cuts (start : ℕ → ℕ) (pieces total : ℕ) : Type 0 where
+-- where so many pieces of the numbers below a total begin: the first at 0, each no later than the next, which is where it ends, and the last ends at the total. A
+-- piece may have no number
+pub record Starts (start : ℕ → ℕ) (pieces total : ℕ) : Type 0 where
   pub first : start 0 ≡ 0
-  pub ascend : (i : ℕ) → i < pieces → start i ≤ start (suc i)
+  pub not-after-next : (i : ℕ) → i < pieces → start i ≤ start (suc i)
   pub last : start pieces ≡ total
 
 -- a number is in the piece i
 abbrev pub In-piece : (start : ℕ → ℕ) → (i x : ℕ) → Type 0
 In-piece start i x = (start i ≤ x) × (x < start (suc i))
 
--- then every number below the total is in exactly one piece, and no piece has another; the pieces are in order; and what they list, one after another, is
--- what the stretch lists
+-- then every number below the total is in exactly one piece, and no piece goes beyond it; the pieces are in order; and what they list, one after another, is what
+-- the stretch lists
 pub record Pieces-correct (start : ℕ → ℕ) (pieces total : ℕ) : Type 0 where
   pub once : (x : ℕ) → x < total → (i : ℕ) × (i < pieces) × In-piece start i x × ((j : ℕ) → j < pieces → In-piece start j x → j ≡ i)
-  pub inside : (i : ℕ) → i < pieces → (x : ℕ) → In-piece start i x → x < total
+  pub within : (i : ℕ) → i ≤ pieces → start i ≤ total
   pub ordered : (i j : ℕ) → i < j → j < pieces → (x y : ℕ) → In-piece start i x → In-piece start j y → x < y
   pub lists : (property : ℕ → Bool)
       → joined (λ i. filter-range property (start (suc i) - start i) (start i)) pieces 0 ≡ filter-range property total 0
@@ -93,8 +103,7 @@ pub record Buffer-correct (xs old new : List ℕ) : Type 0 where
   pub front : (i : ℕ) → i < length xs → getD new i 0 ≡ getD xs i 0
   pub after : (i : ℕ) → length xs ≤ i → getD new i 0 ≡ getD old i 0
 
--- a list over the front of a buffer, with room for it; what a buffer holds after a call; the place after a list that is written from a place on; lists one
--- after another
+-- a list over the front of a buffer, with room for it; what a buffer holds after a call; the place after a list that is written from a place on
 pub record Buffers-correct : Type 1 where
   pub front : (xs old : List ℕ) → length xs ≤ length old → Buffer-correct xs old (overwrite-front xs old)
   pub accepted : {A : Type 0} (new old : A) → unless-refused 0 new old ≡ new
@@ -102,8 +111,6 @@ pub record Buffers-correct : Type 1 where
   pub room : (at : ℕ) (xs old : List ℕ) → at + length xs ≤ length old → place-after at xs old ≡ at + length xs
   pub no-room : (at : ℕ) (xs old : List ℕ) → at ≤ length old → length old ≤ at + length xs → place-after at xs old ≡ length old
   pub beyond : (at : ℕ) (xs old : List ℕ) → length old ≤ at → place-after at xs old ≡ at
-  pub no-list : (f : ℕ → List ℕ) (i : ℕ) → joined f 0 i ≡ []
-  pub list-more : (f : ℕ → List ℕ) (n i : ℕ) → joined f (suc n) i ≡ f i ++ joined f n (suc i)
 
 -- all of it
 pub record Promised : Type 1 where
@@ -112,6 +119,7 @@ pub record Promised : Type 1 where
   pub remainders : (z : ℤ) (M : ℕ) → Remainder-correct z M
   -- by 0 nothing is taken off, and a negative number leaves 0
   pub remainders-by-zero : (n : ℕ) → (pos n modulo 0 ≡ n) × (negsuc n modulo 0 ≡ 0)
-  pub counts : (property : ℕ → Bool) → Counts-correct property
-  pub pieces : (start : ℕ → ℕ) (pieces total : ℕ) → Cuts start pieces total → Pieces-correct start pieces total
+  pub selections : (property : ℕ → Bool) → Selection-correct property
+  pub sequences : Sequences-correct
+  pub pieces : (start : ℕ → ℕ) (pieces total : ℕ) → Starts start pieces total → Pieces-correct start pieces total
   pub buffers : Buffers-correct

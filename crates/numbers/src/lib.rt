@@ -1,5 +1,5 @@
-// Mathematics that the other layers share: remainders of numbers and of integers, divisors, Fibonacci numbers, lists, the theory of a partly
-// written buffer, refusals as checklists; and five calls on numbers and integers.
+// Mathematics that the other layers share: remainders of numbers and of integers, divisors, Fibonacci numbers, lists, pieces of a stretch, the theory of
+// a partly written buffer, refusals as checklists; and five calls on numbers and integers.
 ghost use mathlib.Core.Path.{_≡_};
 ghost use Prim.Native.Nat.{_-_, _%_, min};
 ghost use lib.IntN.{natAbs};

@@ -2,15 +2,15 @@
 -- what they list is what it lists. Assumes nothing.
 use mathlib.Core.Path.{_≡_, refl, _∙_, ap, ap₂}
 use mathlib.Core.List.{List, [], map}
-use Prim.Native.Nat.{ℕ, suc, _+_, _-_, _/_, _≤_, _<_}
-use native.Mathlib.Nat.{add-zero, mul-le-mul-right}
+use Prim.Native.Nat.{ℕ, suc, _+_, _-_, _≤_, _<_}
+use native.Mathlib.Nat.{add-zero}
 use native.Mathlib.Omega.{arith}
 use Rattle.numbers.specs.Lists.{filter-range, joined}
-use Rattle.numbers.specs.Promise.{Cuts}
+use Rattle.numbers.specs.Promise.{Starts}
 use Rattle.numbers.proofs.Promises as numbers
 use Rattle.numbers.proofs.Selections.{filter-none, filter-shifted}
 use Rattle.parabola.specs.Parabola.{Parabola, is-hard, hard-list, continued, part-start, part-count, part, In-range}
-use Rattle.parabola.specs.Promise.{Eighths-correct, Parts-correct}
+use Rattle.parabola.specs.Promise.{Eight-parts-correct, Parts-correct}
 use Rattle.parabola.proofs.Values.{value-below, slope-below, value-continues, slope-continues}
 
 -- ---- where parts begin and how long they are
@@ -28,29 +28,18 @@ module _ (N : ℕ) where
   unfolding part-start
   last = omega arith
 
-  cuts : Cuts (part-start N) 8 N
-  cuts = record { first = first; ascend = λ i h. omega (arith, next i); last = last }
+  starts : Starts (part-start N) 8 N
+  starts = record { first = first; not-after-next = λ i h. omega (arith, next i); last = last }
 
-  once : (x : ℕ) → x < N → (i : ℕ) × (i < 8) × (part-start N i ≤ x) × (x < part-start N i + part-count N i)
-      × ((j : ℕ) → j < 8 → part-start N j ≤ x → x < part-start N j + part-count N j → j ≡ i)
-  once x h =
-      let r = numbers.promised .pieces (part-start N) 8 N cuts .once x h in
-      (r .0, r .1, r .2 .0, omega (arith, r .2 .1, next (r .0)), λ j k l m. r .3 j k (l, omega (arith, m, next j)))
-
-  inside : (i : ℕ) → i < 8 → part-start N i + part-count N i ≤ N
-  unfolding part-start part-count
-  inside i h = omega (arith, mul-le-mul-right {m = i + 1} {n = 8} (N / 8) (omega arith))
-
-  pub eighths-correct : Eighths-correct N
-  eighths-correct =
+  pub eight-parts-correct : Eight-parts-correct N
+  eight-parts-correct =
       record {
         begins = λ i. unfold part-start in refl;
         longer = λ i h. unfold part-count in omega arith;
         shorter = λ i h. unfold part-count in omega arith;
         next = next;
-        cuts = cuts;
-        once = once;
-        inside = inside;
+        starts = starts;
+        pieces = numbers.promised .pieces (part-start N) 8 N starts;
         longer-first = λ i j h. unfold part-count in omega arith;
         nearly-equal = λ i j. unfold part-count in omega arith;
         together = omega (arith, first, next 0, next 1, next 2, next 3, next 4, next 5, next 6, next 7, last);
@@ -95,7 +84,7 @@ module _ (p : Parabola) (range : In-range p) where
   unfolding hard-list
   lists =
       ap (λ (piece : ℕ → List ℕ). joined piece 8 0) (λ j i. part-lists i j)
-      ∙ numbers.promised .pieces (part-start (p .count)) 8 (p .count) (cuts (p .count)) .lists (is-hard p)
+      ∙ eight-parts-correct (p .count) .pieces .lists (is-hard p)
 
   nothing-listed : (i : ℕ) → part-count (p .count) i ≡ 0 → hard-list (part p i) ≡ []
   unfolding hard-list continued

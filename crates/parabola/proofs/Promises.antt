@@ -10,7 +10,7 @@ use Rattle.parabola.specs.Promise.{Values-correct, Promised}
 use Rattle.parabola.proofs.Values.{triangle-twice, value-below, slope-below, second-below, value-first, slope-first, value-next, slope-next, value-continues, slope-continues}
 use Rattle.parabola.proofs.Coverings.{covering-correct}
 use Rattle.parabola.proofs.Centred.{centred-correct}
-use Rattle.parabola.proofs.Parts.{eighths-correct, parts-correct}
+use Rattle.parabola.proofs.Parts.{eight-parts-correct, parts-correct}
 use Rattle.parabola.proofs.Lines.{line-correct}
 
 values-correct : (p : Parabola) → 0 < p .unit → Values-correct p
@@ -45,7 +45,7 @@ promised =
       hard-lists = hard-lists;
       coverings = covering-correct;
       centred-correct = centred-correct;
-      eighths = eighths-correct;
+      eight-parts = eight-parts-correct;
       parts = parts-correct;
       lines = line-correct;
     }

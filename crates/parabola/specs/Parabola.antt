@@ -100,7 +100,7 @@ unfoldable pub continued : Parabola → (h count : ℕ) → Parabola
 continued p h n =
     record { unit = p .unit; value = value-at p h; slope = slope-at p h; curve = p .curve; count = n; window = p .window }
 
--- of eight parts of N arguments, where the part i begins. Each has N/8, rounded down, and the first ones take one more until the rest is used up
+-- of the eight parts 0 to 7 of N arguments, where the part i begins. Each has N/8 of them, rounded down, and the first ones take one more until the rest is used up
 unfoldable pub part-start : (N i : ℕ) → ℕ
 part-start N i = i * (N / 8) + min i (N % 8)
 

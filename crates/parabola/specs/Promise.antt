@@ -8,7 +8,7 @@ use lib.Dec.{ltb}
 use lib.IntN.{ℤ, pos, negsuc, negℤ, natAbs, _+ℤ_, _*ℤ_}
 use Rattle.numbers.specs.Integers.{_modulo_}
 use Rattle.numbers.specs.Lists.{count-if, joined}
-use Rattle.numbers.specs.Promise.{Enumerates, Cuts}
+use Rattle.numbers.specs.Promise.{Enumerates, Starts, Pieces-correct}
 use Rattle.geometry.specs.Segment.{Segment, residue}
 use Rattle.geometry.specs.Segment as segment
 use Rattle.parabola.specs.Parabola.{Parabola, triangle, value-at, slope-at, second-difference, hard-list, centred, spread, covering, continued, part-start, part-count, part, In-range, line}
@@ -83,8 +83,8 @@ pub record Covering-both-correct (p : Parabola) (segment : Segment) : Type 0 whe
   pub covers : (x : ℕ) → x < p .count → (value-at p x < p .window) ⊎ (p .unit - value-at p x < p .window) → residue segment x < segment .window
 
 -- the centred parabola is the same but for the window, the smaller of M and 2w - 1, and the values, which gain w - 1, modulo M. A value is then less than
--- the window exactly where V(x) < w or M - V(x) < w. Its covering segment covers both sides, and its parts are the parts, centred. For w of 0 it is the
--- parabola itself
+-- the window exactly where V(x) < w or M - V(x) < w. Its covering segment covers both sides, and its parts are those of the parabola, each centred. For w
+-- of 0 it is the parabola itself
 pub record Centred-correct (p : Parabola) : Type 0 where
   pub start : centred p .value ≡ (p .value + (p .window - 1)) % p .unit
   pub window : centred p .window ≡ min (p .unit) (2 * p .window - 1)
@@ -99,18 +99,16 @@ pub record Centred-correct (p : Parabola) : Type 0 where
 
 -- ---- the parts
 
--- the eight parts of N arguments: each has N/8, rounded down, and the first ones one more until the rest is used up. Each begins where the one before ends, the
--- first at 0, and the last ends at N, so that they have every argument below N once and in order. Lengths differ by at most one, the longer ones come first,
--- and together they are N. A part has no argument exactly where N is at most its number. For a multiple of 8 all have N/8, as before document 02's 2.2
-pub record Eighths-correct (N : ℕ) : Type 0 where
+-- N arguments in eight parts, 0 to 7: each has N/8 of them, rounded down, and the first ones one more until the rest is used up. Each begins where the one before
+-- ends, the first at 0, and the last ends at N, so that they have every argument below N once and in order. Lengths differ by at most one, the longer ones come
+-- first, and together they are N. The part i has no argument exactly where N is at most i. For a multiple of 8 all have N/8, as before document 02's 2.2
+pub record Eight-parts-correct (N : ℕ) : Type 0 where
   pub begins : (i : ℕ) → part-start N i ≡ i * (N / 8) + min i (N % 8)
   pub longer : (i : ℕ) → i < N % 8 → part-count N i ≡ N / 8 + 1
   pub shorter : (i : ℕ) → N % 8 ≤ i → part-count N i ≡ N / 8
   pub next : (i : ℕ) → part-start N (suc i) ≡ part-start N i + part-count N i
-  pub cuts : Cuts (part-start N) 8 N
-  pub once : (x : ℕ) → x < N → (i : ℕ) × (i < 8) × (part-start N i ≤ x) × (x < part-start N i + part-count N i)
-      × ((j : ℕ) → j < 8 → part-start N j ≤ x → x < part-start N j + part-count N j → j ≡ i)
-  pub inside : (i : ℕ) → i < 8 → part-start N i + part-count N i ≤ N
+  pub starts : Starts (part-start N) 8 N
+  pub pieces : Pieces-correct (part-start N) 8 N
   pub longer-first : (i j : ℕ) → i ≤ j → part-count N j ≤ part-count N i
   pub nearly-equal : (i j : ℕ) → part-count N i ≤ part-count N j + 1
   pub together : part-count N 0 + part-count N 1 + part-count N 2 + part-count N 3 + part-count N 4 + part-count N 5 + part-count N 6 + part-count N 7 ≡ N
@@ -145,6 +143,6 @@ pub record Promised : Type 0 where
       → Enumerates (λ x. (x < p .count) × (value-at p x < p .window)) (count-if (λ x. ltb (value-at p x) (p .window)) (p .count) 0) (hard-list p)
   pub coverings : (p : Parabola) → 0 < p .unit → p .slope < p .unit → Covering-correct p
   pub centred-correct : (p : Parabola) → In-range p → Centred-correct p
-  pub eighths : (N : ℕ) → Eighths-correct N
+  pub eight-parts : (N : ℕ) → Eight-parts-correct N
   pub parts : (p : Parabola) → In-range p → Parts-correct p
   pub lines : (s : Segment) → s .step < s .unit → Line-correct s

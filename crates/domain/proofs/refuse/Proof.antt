@@ -1,5 +1,4 @@
 -- `domain::refuse` meets its contract. Assumes nothing.
-use mathlib.Core.Path.{_∙_}
 use mir.Facts.{toZ-ofZ}
 use mir.Syntax.{w64}
 use mir.Val.{SFits}

@@ -6,7 +6,7 @@ use borrow.Author.Needs.{needs}
 use lib.ListN.{length}
 use Rattle.parabola.specs.Parabola.{hard-list}
 use Rattle.arc.specs.Arc.{parabola}
-use Rattle.domain.specs.Phases.{part-counts, report}
+use Rattle.domain.specs.Phases.{hard-counts, report}
 use Rattle.domain.specs.declared.phases.Report.{Report}
 use Rattle.domain.proofs.Answers.{parts-refused, parts-searched}
 use Rattle.domain.proofs.search_parts.Statement.{statement}
@@ -17,9 +17,9 @@ total-is : (c : tie.After-examine-parts) → c .examine-parts .result .total ≡
 unfolding report
 total-is c = ap (λ (r : Report). r .total) (c .examine-parts .ensures)
 
-counts-are : (c : tie.After-examine-parts) → c .examine-parts .result .counts ≡ part-counts (parabola (c .before .before .args .arc))
+counts-are : (c : tie.After-examine-parts) → c .examine-parts .result .hard ≡ hard-counts (parabola (c .before .before .args .arc))
 unfolding report
-counts-are c = ap (λ (r : Report). r .counts) (c .examine-parts .ensures)
+counts-are c = ap (λ (r : Report). r .hard) (c .examine-parts .ensures)
 
 -- there is room for it
 room : (c : tie.Else1) → let s = c .before .before .before .before in length (hard-list (parabola (s .args .arc))) ≤ length (s .args .list .now)

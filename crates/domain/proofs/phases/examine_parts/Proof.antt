@@ -11,7 +11,7 @@ use Rattle.domain.proofs.phases.examine_parts.Statement.{statement}
 use Rattle.domain.proofs.phases.examine_parts.Tie as tie
 
 abbrev Inv-loop : tie.InvT-loop
-Inv-loop arc _ _ _ _ marks counts total i = Examining (parabola arc) marks counts total i
+Inv-loop arc _ _ _ _ marks hard total i = Examining (parabola arc) marks hard total i
 
 abbrev μ-loop : tie.MeasureT-loop
 μ-loop _ _ _ _ _ _ _ _ i = 8 - i
@@ -20,7 +20,7 @@ abbrev μ-loop : tie.MeasureT-loop
 examined : (c : tie.After-examine-part Inv-loop μ-loop)
     → let l = c .before .before .loop in
     Examining (parabola (c .before .before .before .args .arc)) (set (l .marks) (l .i) (c .examine-part .result .mark))
-    (set (l .counts) (l .i) (c .examine-part .result .count)) (l .total + c .examine-part .result .count) (l .i + 1)
+    (set (l .hard) (l .i) (c .examine-part .result .hard)) (l .total + c .examine-part .result .hard) (l .i + 1)
 examined c =
     let at-turn = c .before in
     examine-next (at-turn .before .loop .inv) (at-turn .loop-test .taken) (c .examine-part .ensures)

@@ -9,7 +9,7 @@ use Rattle.numbers.proofs.Selections.{tabulate-at}
 use Rattle.parabola.specs.Parabola.{hard-list, part}
 use Rattle.parabola.proofs.Laws.{list-most}
 use Rattle.arc.specs.Arc.{parabola}
-use Rattle.domain.specs.Phases.{part-count-hard}
+use Rattle.domain.specs.Phases.{hard-count}
 use Rattle.domain.proofs.Parts.{Listing-parts, list-first, list-end, list-room, list-next, list-done}
 use Rattle.domain.proofs.phases.list_parts.Statement.{statement}
 use Rattle.domain.proofs.phases.list_parts.Tie as tie
@@ -27,7 +27,7 @@ number-is : (c : tie.In-loop Inv-loop μ-loop)
 number-is c =
     let s = c .before .before .before in
     ap (λ (xs : List ℕ). getD xs (c .before .loop .i) 0) (s .pre .1 .0)
-    ∙ tabulate-at (part-count-hard (parabola (s .args .arc))) 8 (c .before .loop .i) (c .loop-test .taken)
+    ∙ tabulate-at (hard-count (parabola (s .args .arc))) 8 (c .before .loop .i) (c .loop-test .taken)
 
 -- and that there is room for them
 room : (c : tie.In-loop Inv-loop μ-loop)

@@ -1,5 +1,5 @@
 -- `domain::phases::part` meets its contract. Assumes nothing.
-use mathlib.Core.Path.{_≡_, sym, _∙_, ap}
+use mathlib.Core.Path.{sym, _∙_, ap}
 use borrow.Author.Needs.{needs}
 use Rattle.arc.specs.Arc.{point-answer}
 use Rattle.domain.proofs.Parts.{begins-inside, part-made}
