@@ -58,10 +58,10 @@ number-accepts d places =
     (λ e. let h = r .0 e in (a .0 (unfold arc.refusal in h .0), m .0 (h .1)), λ h. r .1 (unfold arc.refusal in a .1 (h .0), m .1 (h .1)))
 
 -- of the numbers 1 to 5 it has the one that the segment with its slope for the step and its value for the start has
-pub number-as-segment : (d : Domain) (places n : ℕ) → 1 ≤ n → n ≤ 5
+pub number-as-segment : (d : Domain) (places : ℕ) {n : ℕ} → 1 ≤ n → n ≤ 5
     → (domain-number d places ≡ n) ↔ (segment.refusal (arc.line-of (arc-of d)) ≡ n)
 unfolding domain-number segment.refusal
-number-as-segment d places n low high =
+number-as-segment d places {n} low high =
     let cs = segment.checks (arc.line-of (arc-of d)) in
     let ds = arc.curve-checks (arc-of d) ++ room (hard-arguments d) places in
     let same : arc.checks (arc-of d) ++ room (hard-arguments d) places ≡ cs ++ ds = refl in (

@@ -193,7 +193,7 @@ refused-as-segment : (d : Domain) (places n : ℕ) → 1 ≤ n → n ≤ 5
 unfolding domain-answer
 refused-as-segment d places n low high =
     let r = refuses-with (centred-of d) (domain-number d places) n in
-    let m = number-as-segment d places n low high in
+    let m = number-as-segment d places low high in
     (λ e. m .0 (r .0 e .0), λ e. r .1 (m .1 e, λ z. omega arith))
 
 -- ---- scans

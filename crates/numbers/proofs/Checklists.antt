@@ -48,22 +48,6 @@ accepts cs some = (to cs some, accepted cs)
     to (c ∷ cs) some e =
         by-cases (c .decided) (λ h. (h, to cs (some .1) (sym (passed c cs h) ∙ e))) (λ h. absurd (omega (arith, some .0, sym (failed c cs h) ∙ e)))
 
--- checklists with the same numbers, whose conditions hold together
-abbrev pub Alike : (cs ds : List Check) → Type 0
-Alike [] [] = Unit
-Alike [] (d ∷ ds) = ⊥
-Alike (c ∷ cs) [] = ⊥
-Alike (c ∷ cs) (d ∷ ds) = (c .condition .number ≡ d .condition .number) × ((c .condition .Holds ↔ d .condition .Holds) × Alike cs ds)
-
-pub alike : (cs ds : List Check) → Alike cs ds → first-failing cs ≡ first-failing ds
-alike [] [] a = refl
-alike [] (d ∷ ds) a = absurd a
-alike (c ∷ cs) [] a = absurd a
-alike (c ∷ cs) (d ∷ ds) a =
-    by-cases (c .decided)
-    (λ h. passed c cs h ∙ alike cs ds (a .1 .1) ∙ sym (passed d ds (a .1 .0 .0 h)))
-    (λ h. failed c cs h ∙ a .0 ∙ sym (failed d ds (λ k. h (a .1 .0 .1 k))))
-
 -- ---- one checklist after another
 
 pub first-of-two : (cs ds : List Check) {n : ℕ} → first-failing cs ≡ n → (n ≡ 0 → ⊥) → first-failing (cs ++ ds) ≡ n
