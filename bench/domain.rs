@@ -236,7 +236,7 @@ fn is_cleared(domain: &Domain) -> bool {
     answer(proved, domain).1[0] == 1
 }
 
-/// Domains of a count of 2^15 or a little less with small curves of either sign, and windows such that phase 1 leaves about one of a
+/// Domains of the given count, about 2^15, with small curves of either sign, and windows such that phase 1 leaves about one of a
 /// thousand not clear.
 fn domains(number: usize, count: u64) -> Vec<Domain> {
     let small = |random: u64| (random % 17) as i64 - 8;
@@ -261,10 +261,10 @@ fn cleared_domains(domains: &[Domain]) {
 }
 
 /// Domains as they come, some of which go to phase 2.
-fn mixed_domains(domains: &[Domain]) {
+fn mixed_domains(name: &str, domains: &[Domain]) {
     let mut memory = Memory::new();
     let possible = domains.iter().filter(|domain| !is_cleared(domain)).count();
-    let name = format!("domains N={}, {possible} of {} to phase 2", domains[0].count, domains.len());
+    let name = format!("domains N={name}, {possible} of {} to phase 2", domains.len());
     measure([&name], 1, || {
         let proved = nanoseconds(domains, &mut memory, proved);
         (proved, [nanoseconds(domains, &mut memory, unverified)])
@@ -368,8 +368,8 @@ fn main() {
     let cleared: Vec<Domain> = whole.iter().copied().filter(is_cleared).take(DOMAINS).collect();
     assert_eq!(cleared.len(), DOMAINS);
     cleared_domains(&cleared);
-    mixed_domains(&whole[..DOMAINS]);
-    mixed_domains(&with_rest[..DOMAINS]);
+    mixed_domains("2^15", &whole[..DOMAINS]);
+    mixed_domains("2^15 - 3", &with_rest[..DOMAINS]);
     scans();
     domain_scans();
 }

@@ -2,7 +2,8 @@
 
     python3 examples/exp.py                     writes the files exp-*.job beside this script
     python3 examples/exp.py FIRST COUNT BITS    prints the job of COUNT doubles from FIRST upwards and eps = 2^-BITS,
-                                                as in: python3 examples/exp.py 0x1.2p-1 32768 32
+                                                as in: python3 examples/exp.py 0x1.2p-1 32768 32; at least three
+                                                doubles from FIRST on have to lie in one binade, as do their exponentials
     python3 examples/exp.py --check             prints how near to a breakpoint the listed arguments of the files are
 
 Scaling. The doubles are (m + x)·2^e, with a whole m of 53 bits and x from 0 to N-1. F(x) = 2^k·exp((m + x)·2^e), with k
@@ -71,7 +72,7 @@ def job(first, count, bits):
     far = max(2, count - 1)
     (f0, k), (f1, _), (f2, _), (_, last) = (scaled(m + x, e) for x in (0, 1, 2, far))
     if k != last or not 1 << 52 <= abs(m + far) <= 1 << 53:
-        sys.exit("no power of two may lie between the doubles, nor between their exponentials")
+        sys.exit("no power of two may lie between the doubles, of which three at least count, nor between their exponentials")
     exact = [MODULUS * c for c in (f0, f1 - f0, f2 - 2 * f1 + f0)]
     value, slope, curve = ((c + HALF) >> POINT for c in exact)
     r0, r1, r2 = (abs(c - (whole << POINT)) for c, whole in zip(exact, (value, slope, curve)))

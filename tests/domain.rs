@@ -365,7 +365,7 @@ fn extreme_fields() -> Result<Tally, String> {
     all(domains)
 }
 
-/// Count 2^20 at the ends of the other fields, where the numbers are largest, and counts that leave a rest just below it.
+/// Count 2^20 at the ends of the other fields, where the numbers are largest, and counts just below it that leave a rest.
 fn largest_count() -> Result<Tally, String> {
     let m = LARGEST;
     let mut domains = vec![domain(2, 1, 1, LARGEST_CURVE, MOST, 2), domain(2, 1, 1, -LARGEST_CURVE, MOST, 1)];
@@ -490,7 +490,7 @@ fn verdicts_by_spread() -> Result<Tally, String> {
     all(examples.map(|example| example.0))
 }
 
-/// Document 01's examples without a mark that concern domains.
+/// Document 01's examples without a mark that concern domains, as 02 leaves them, and two more counts that 02 accepts.
 fn settled_refusals() -> Result<Tally, String> {
     let refusals = [
         (domain(1, 0, 0, 0, 8, 0), 1),
@@ -702,7 +702,7 @@ fn main() {
         ("far regular searches", far_regular_searches),
         ("count 2^15, moduli about 2^60", realistic_domains),
         ("extreme fields", extreme_fields),
-        ("count 2^20", largest_count),
+        ("counts up to 2^20", largest_count),
         ("random fields of every size", random_fields_of_every_size),
         ("every set of refusals", every_set_of_refusals),
         ("settled examples", settled_examples),

@@ -38,7 +38,7 @@ pub fn somewhere(random: &mut Random, modulus: u64, count: u64) -> Domain {
     Domain { modulus, value, slope, curve, count, window }
 }
 
-/// A count up to the given number, which is a multiple of 8: any, or one that makes eight parts of one length.
+/// A count up to the given multiple of 8: any, or rounded up to a multiple of 8.
 pub fn random_count(random: &mut Random, most: u64) -> u64 {
     let count = random.sized(most);
     one_of(random, &[count, count.next_multiple_of(8)])

@@ -400,6 +400,8 @@ static void check_domain(const char *example, struct domain d, const struct answ
  * window 0), as its residues: it is clear for window 0 and possible for window M. So it is for a part with one argument. With value 1
  * and slope 0 the values are 1, 1, 2, 4, 7, .. for curve 1 and 1, 1, 0, 43, 40, .. for curve -1; with count 8 and window 1 the covering
  * segment has step 0, window 1 + 28, and start 1 + 28 for curve 1 but 1 for curve -1. With curve 1048576 or -1048576 its window is M.
+ * The two curves with count 12 have the values 0, 40, 36, 33, 31, 30, 30, 31, 33, 36, 40, 0 and 0, 4, 7, 9, 10, 10, 9, 7, 4, 0, 40, 34:
+ * only the parts with a 0 come near a multiple of 45.
  */
 static void check_accepted_domains(void) {
     static const struct {

@@ -216,7 +216,7 @@ fn accepted(domain: Domain) -> Case {
 }
 
 /// Each number at the ends of what is accepted, beside them, and where a narrower one would wrap; document 01's examples
-/// without a mark are among them.
+/// without a mark are among them, as 02 leaves them.
 fn ends_of_ranges() -> Vec<Case> {
     let mut cases = Vec::new();
     cases.extend([0, 1, LARGEST + 1, 1 << 63, u64::MAX].map(|modulus| refused(1, Domain { modulus, ..J })));
@@ -534,7 +534,7 @@ const JOBS: [(&str, fn() -> Vec<Case>); 13] = [
     ("random moduli of every size", random_moduli_of_every_size),
     ("random moduli from 2^61 to 2^62", random_large_moduli),
     ("count 2^15, moduli about 2^60", realistic_jobs),
-    ("count 2^20", largest_count),
+    ("counts up to 2^20", largest_count),
 ];
 
 const PROCESSES: [(&str, fn(&str) -> Result<Tally, String>); 6] = [

@@ -1,6 +1,5 @@
 -- A domain (document 01): which arc and which parabola it is, which of its arguments are hard (document 02, 2.1), which segments cover it and its parts, and
--- which domains are accepted. It is refused as its arc is, and so by 1 to 5 as the segment is that has its slope for the step and its value for the start.
--- Assumes nothing: these are definitions.
+-- which domains are accepted. Assumes nothing: these are definitions.
 use mathlib.Core.List.{List}
 use Prim.Native.Nat.{ℕ}
 use Rattle.geometry.specs.Segment.{Segment}

@@ -21,7 +21,7 @@ unfoldable pub mark-with : (count : ℕ) → Verdict → ℕ
 mark-with zero v = 3
 mark-with (suc n) v = mark-of v
 
--- phase 2 looks at a part, a parabola of its own: 3 where it has no argument, and else by the fine search of its covering segment
+-- phase 2's mark of a part, a parabola of its own, by the fine search of its covering segment
 abbrev pub mark-of-part : Parabola → ℕ
 mark-of-part q = mark-with (q .count) (verdict fine (covering q))
 

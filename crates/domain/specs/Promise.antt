@@ -187,7 +187,7 @@ pub record Scan-correct (s : Segment) (old : List ℕ) (answer : ScanAnswer) (ne
 
 pub record Promised : Type 0 where
   pub parabolas : (d : Domain) → Parabola-correct d
-  -- a domain is accepted exactly where its six numbers are within 01's bounds
+  -- a domain is accepted exactly where its six numbers are within 01's bounds, as 02 changes them
   pub accepted : (d : Domain)
       → Accepted d
       ↔ ((2 ≤ d .modulus) × (d .modulus ≤ 2 ^ 62) × (d .slope < d .modulus) × (d .value < d .modulus) × (1 ≤ d .count) × (d .count ≤ 1048576)
@@ -209,7 +209,7 @@ pub record Promised : Type 0 where
       → next-point (second-difference p) (p .unit) (record { value = value-at p x; slope = slope-at p x })
       ≡ record { value = value-at p (suc x); slope = slope-at p (suc x) }
   pub phases : (d : Domain) → Accepted d → Phases-correct d
-  -- by 1 to 5 a domain is refused exactly as the segment with its slope for the step and its value for the start
+  -- 1 to 5 refuse a domain exactly where they refuse the segment with its slope for the step and its value for the start
   pub refused-as-segment : (d : Domain) (places n : ℕ) → 1 ≤ n → n ≤ 5
       → (domain-answer d places ≡ domain-variants.Refused n)
       ↔ (segment.refusal (segment.asked (d .modulus) (d .slope) (d .value) (d .count) (d .window)) ≡ n)

@@ -112,8 +112,7 @@ pub fn search_domain(domain: Domain, marks: &mut [u8; 8], list: &mut [u32]) -> D
     }
 }
 
-// The number of the first condition that a domain fails, or 0: its curve's after those of the segment with the slope for its step and the value for its
-// start.
+// The number that refuses the domain's arc, or 0.
 fn refuse(domain: Domain) -> u32
     ensures { λ r. ⌜ r ≡ refusal (arc-of domain) ⌝ }
 {

@@ -123,7 +123,7 @@ pub record Example-9 : Type 0 where
 abbrev pub J-of : (count : ℕ) → Domain
 J-of n = record { modulus = 45; value = 44; slope = 31; curve = pos 0; count = n; window = 3 }
 
--- it has 16 arguments
+-- job J itself has 16 arguments
 abbrev pub J : Domain
 J = J-of 16
 
@@ -231,14 +231,15 @@ pub record Any-length : Type 0 where
   pub left-12 : (x y z : ℕ) → list-after (J-of 12) (x ∷ y ∷ z ∷ []) ≡ 0 ∷ 3 ∷ z ∷ []
   pub marks-3 : (old : List ℕ) → marks-after (J-of 3) 1 old ≡ 2 ∷ 1 ∷ 1 ∷ 3 ∷ 3 ∷ 3 ∷ 3 ∷ 3 ∷ []
   pub left-3 : (x y : ℕ) → list-after (J-of 3) (x ∷ y ∷ []) ≡ 0 ∷ y ∷ []
-  -- hard arguments in longer and in shorter parts; a part's own D is that of its own length: with two arguments the part 6 would not be clear
+  -- hard arguments in longer and in shorter parts. With two arguments the part 6 of the first domain, and the part 4 of the second, would have the next part's
+  -- hard argument and not be clear
   pub rising : domain-answer rising-12 2 ≡ domain-variants.Searched Possible 2
   pub rising-marks : (old : List ℕ) → marks-after rising-12 2 old ≡ 2 ∷ 1 ∷ 1 ∷ 1 ∷ 1 ∷ 1 ∷ 1 ∷ 2 ∷ []
   pub rising-left : (x y : ℕ) → list-after rising-12 (x ∷ y ∷ []) ≡ 0 ∷ 11 ∷ []
   pub falling : domain-answer falling-12 2 ≡ domain-variants.Searched Possible 2
   pub falling-marks : (old : List ℕ) → marks-after falling-12 2 old ≡ 2 ∷ 1 ∷ 1 ∷ 1 ∷ 1 ∷ 2 ∷ 1 ∷ 1 ∷ []
   pub falling-left : (x y : ℕ) → list-after falling-12 (x ∷ y ∷ []) ≡ 0 ∷ 9 ∷ []
-  -- a domain of 3 arguments that is cleared is not looked at in parts, whether they have arguments or not
+  -- no part of a cleared domain is looked at, whether it has arguments or not
   pub prints-cleared : output-of (bytes "modulus=11\nvalue=5\nslope=0\ncurve=0\ncount=3\nwindow=5\n")
       ≡ bytes "first=cleared\nparts=00000000\nlisted=0\n"
   pub cleared-3 : domain-answer (constant-of 3 5 5) 0 ≡ domain-variants.Searched Clear 0

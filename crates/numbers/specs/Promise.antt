@@ -56,7 +56,7 @@ pub record Enumerates (holds : (x : ℕ) → Type 0) (number : ℕ) (xs : List �
   pub fits : (x : ℕ) → List·Memᴰ x xs → x < 2 ^ 32
   pub counted : length xs ≡ number
 
--- which of the numbers from x on have a property, as many as are left, and how many they are: x and one more where x has it
+-- which of the numbers from x on have a property, as many as are left, and how many: where x has it, it is the first of them and counts for one
 pub record Selection-correct (property : ℕ → Bool) : Type 0 where
   pub none-left : (x : ℕ) → filter-range property 0 x ≡ []
   pub taken : (n x : ℕ) → property x ≡ true → filter-range property (suc n) x ≡ x ∷ filter-range property n (suc x)
@@ -74,7 +74,7 @@ pub record Sequences-correct : Type 0 where
 
 -- ---- pieces of a stretch
 
--- where so many pieces of the numbers below a total begin: the first at 0, each no later than the next, which is where it ends, and the last ends at the total. A
+-- where so many pieces begin that make up the numbers below a total: the first at 0, and each no later than the next, where it ends; the last ends at the total. A
 -- piece may have no number
 pub record Starts (start : ℕ → ℕ) (pieces total : ℕ) : Type 0 where
   pub first : start 0 ≡ 0

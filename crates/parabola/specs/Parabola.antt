@@ -104,7 +104,7 @@ continued p h n =
 unfoldable pub part-start : (N i : ℕ) → ℕ
 part-start N i = i * (N / 8) + min i (N % 8)
 
--- how many arguments it has: one more where i is below the rest
+-- how many arguments it has: N/8, and one more where i is below the rest
 unfoldable pub part-count : (N i : ℕ) → ℕ
 part-count N i = N / 8 + min 1 (N % 8 - i)
 

@@ -101,7 +101,7 @@ pub record Centred-correct (p : Parabola) : Type 0 where
 
 -- N arguments in eight parts, 0 to 7: each has N/8 of them, rounded down, and the first ones one more until the rest is used up. Each begins where the one before
 -- ends, the first at 0, and the last ends at N, so that they have every argument below N once and in order. Lengths differ by at most one, the longer ones come
--- first, and together they are N. The part i has no argument exactly where N is at most i. For a multiple of 8 all have N/8, as before document 02's 2.2
+-- first, and their sum is N. The part i has no argument exactly where N is at most i. For a multiple of 8 all have N/8, as before document 02's 2.2
 pub record Eight-parts-correct (N : ℕ) : Type 0 where
   pub begins : (i : ℕ) → part-start N i ≡ i * (N / 8) + min i (N % 8)
   pub longer : (i : ℕ) → i < N % 8 → part-count N i ≡ N / 8 + 1
