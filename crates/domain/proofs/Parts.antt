@@ -44,7 +44,7 @@ pub start-most : {N i : ℕ} → N ≤ 1048576 → i < 8 → part-start N i ≤ 
 start-most {N} {i} most h = omega (arith, promised .eight-parts N .pieces .within i (omega arith))
 
 module _ (a : Arc) (range : In-range (parabola a)) {i : ℕ} (h : i < 8) (some : 1 ≤ part-count (a .count) i) where
-  -- at an argument
+  -- a part with arguments begins at one of the whole
   begins-below : part-start (a .count) i < a .count
   begins-below =
       let parts = promised .eight-parts (a .count) in
@@ -57,7 +57,7 @@ module _ (a : Arc) (range : In-range (parabola a)) {i : ℕ} (h : i < 8) (some :
   unfolding value-at slope-at triangle continued
   part-point = arc.promised .arcs a .inside (part-start (a .count) i) range begins-below
 
-  -- with its own value and slope
+  -- and is made of the value and the slope there
   pub part-made : {v s n : ℕ} → point-answer a (part-start (a .count) i) ≡ At v s → n ≡ part-count (a .count) i
       → record { unit = a .modulus; value = v; slope = s; curve = read (a .curve); count = n; window = a .window } ≡ part (parabola a) i
   unfolding continued
@@ -131,7 +131,7 @@ module _ (p : Parabola) (i : ℕ) where
 
 -- ---- examining
 
--- before the part i, with the marks and the counts of those before it written, and with so many hard arguments in them
+-- before the part i: the marks of those before it and how many hard arguments each has are written, and how many they have together is known
 pub record Examining (p : Parabola) (marks counts : List ℕ) (total i : ℕ) : Type 0 where
   pub within : i ≤ 8
   pub marking : Writing (part-marks p) (replicate 8 0) 0 (tabulate (part-mark p) (8 - i) i) marks i

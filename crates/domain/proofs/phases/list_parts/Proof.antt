@@ -15,7 +15,7 @@ use Rattle.domain.proofs.phases.list_parts.Statement.{statement}
 use Rattle.domain.proofs.phases.list_parts.Tie as tie
 
 abbrev Inv-loop : tie.InvT-loop
-Inv-loop arc list₀ counts _ _ list place i = Listing-parts (parabola arc) list₀ list place i
+Inv-loop arc list₀ _ _ _ list place i = Listing-parts (parabola arc) list₀ list place i
 
 abbrev μ-loop : tie.MeasureT-loop
 μ-loop _ _ _ _ _ _ _ i = 8 - i
