@@ -63,8 +63,7 @@ pub number-as-segment : (d : Domain) (places : ℕ) {n : ℕ} → 1 ≤ n → n 
 unfolding domain-number segment.refusal
 number-as-segment d places {n} low high =
     let cs = segment.checks (arc.line-of (arc-of d)) in
-    let ds = arc.curve-checks (arc-of d) ++ room (hard-arguments d) places in
-    let same : arc.checks (arc-of d) ++ room (hard-arguments d) places ≡ cs ++ ds = refl in (
+    let ds = arc.curve-checks (arc-of d) ++ room (hard-arguments d) places in (
       λ e. by-cases (ℕ-discrete (first-failing cs) 0)
           (λ z. absurd
           (⊎-elim (λ h. omega (arith, h .0)) (λ h. ⊎-elim (λ k. omega (arith, k .0)) (λ k. k .1) (h .1))

@@ -122,9 +122,9 @@ module _ (p : Parabola) (i : ℕ) where
       by-cases (decLe 1 (part-count (p .count) i)) (λ h. h)
       (λ h. absurd (some (e ∙ ap length (promised .parts p range .nothing-listed i (omega arith)))))
 
-  -- a part without hard arguments lists nothing
-  pub nothing-listed : (place : ℕ) (list : List ℕ) {n : ℕ} → n ≡ length (hard-list (part p i)) → n ≡ 0 → list ≡ sets list place (piece p i)
-  nothing-listed place list e z = sym (ap (λ (xs : List ℕ). sets list place xs) (no-entries (piece p i) (omega (arith, piece-length))))
+  -- a part without hard arguments writes nothing
+  pub nothing-written : (place : ℕ) (list : List ℕ) {n : ℕ} → n ≡ length (hard-list (part p i)) → n ≡ 0 → list ≡ sets list place (piece p i)
+  nothing-written place list e z = sym (ap (λ (xs : List ℕ). sets list place xs) (no-entries (piece p i) (omega (arith, piece-length))))
 
   pieces-length : i < 8 → length (pieces-from p i) ≡ length (hard-list (part p i)) + length (pieces-from p (suc i))
   pieces-length h = ap length (joined-next (piece p) 8 i h) ∙ length-append (piece p i) (pieces-from p (suc i)) ∙ omega (arith, piece-length)

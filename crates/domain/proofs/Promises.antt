@@ -21,7 +21,7 @@ use Rattle.segment.specs.Accepted as segment
 use Rattle.segment.specs.Search.{verdict}
 use Rattle.segment.specs.declared.Verdict.{Verdict}
 use Rattle.segment.specs.declared.Verdict.the-variants.{Clear}
-use Rattle.parabola.specs.Parabola.{Parabola, triangle, value-at, slope-at, is-hard, hard-list, Hard, centred, covering, continued, part-count, part}
+use Rattle.parabola.specs.Parabola.{Parabola, triangle, value-at, slope-at, is-hard, hard-list, centred, covering, continued, part-count, part}
 use Rattle.parabola.specs.Promise.{Covering-both-correct}
 use Rattle.parabola.proofs.Promises as parabola
 use Rattle.domain.specs.Domain.{parabola-of, centred-of, hard-arguments, covering-of, part-covering, Accepted}
@@ -33,7 +33,7 @@ use Rattle.domain.specs.declared.DomainAnswer.the-variants as domain-var
 use Rattle.domain.specs.declared.ScanAnswer.the-variants as scan-variants
 use Rattle.domain.proofs.Answers.{searched-in-range, number-accepts, number-as-segment, scan-accepts}
 use Rattle.domain.proofs.Numbers.{hard-by-numbers, nearest, hard-in-segment}
-use Rattle.domain.proofs.Verdicts.{covering-accepted, nothing-listed, searched-parts, part-in-range, phases-correct, marks-correct, marks-as-before}
+use Rattle.domain.proofs.Verdicts.{covering-accepted, cleared-list, searched-parts, part-in-range, phases-correct, marks-correct, marks-as-before}
 
 parabola-correct : (d : Domain) → Parabola-correct d
 unfolding value-at triangle
@@ -136,9 +136,7 @@ module _ (d : Domain) (old-marks old : List ℕ) where
         buffer = λ v n e. buffer (reports v n .0 e .0);
         hard = λ v n e. let r = reports v n .0 e in hard n (r .0) (r .2);
         ascends = λ v n e. let r = reports v n .0 e in
-            let b = buffer (r .0) in
-            let l = parabola.promised .hard-lists (centred-of d) (searched-in-range d (taken (r .0) .0) .count-high) in
-            λ i j h k. front-ascends b (l .ascending) i j h (omega (arith, r .2));
+            λ i j h k. front-ascends (buffer (r .0)) (hard-lists d (taken (r .0) .0) .ascending) i j h (omega (arith, r .2));
       }
     where
       number : ℕ
@@ -160,27 +158,17 @@ module _ (d : Domain) (old-marks old : List ℕ) where
       buffer : domain-number d (length old) ≡ 0 → Buffer-correct (hard-arguments d) old (list-after d old)
       buffer e = subst (Buffer-correct (hard-arguments d) old) (sym (searched-leaves e .1)) (front-correct (hard-arguments d) old (taken e .1))
 
-      by-numbers : (e : domain-number d (length old) ≡ 0) (x : ℕ) → Hard (centred-of d) x ↔ Hard-in-numbers d x
-      by-numbers e x = hard-by-numbers d x (taken e .0)
-
       hard : (n : ℕ) → domain-number d (length old) ≡ 0 → n ≡ length (hard-arguments d) → Enumerates (Hard-in-numbers d) n (take n (list-after d old))
       hard n e f =
-          let l = parabola.promised .hard-lists (centred-of d) (searched-in-range d (taken e .0) .count-high) in
           let t : take n (list-after d old) ≡ hard-arguments d
           = ap₂ take f (searched-leaves e .1) ∙ front-taken (hard-arguments d) old in
-          subst (Enumerates (Hard-in-numbers d) n) (sym t)
-          (record {
-            exactly = λ x. (λ m. by-numbers e x .0 (l .exactly x .0 m), λ h. l .exactly x .1 (by-numbers e x .1 h));
-            ascending = l .ascending;
-            fits = l .fits;
-            counted = sym f;
-          })
+          subst (Enumerates (Hard-in-numbers d) n) (sym t) (rw f (hard-lists d (taken e .0)))
 
       cleared : (n : ℕ) → (domain-number d (length old) ≡ 0) × (Clear ≡ verdict regular (covering-of d)) × (n ≡ length (hard-arguments d))
           → (n ≡ 0) × (list-after d old ≡ old) × ((x : ℕ) → Hard-in-numbers d x → ⊥)
       cleared n r =
           let a = taken (r .0) .0 in
-          let z : hard-arguments d ≡ [] = nothing-listed regular (searched-in-range d a) (sym (r .1)) in (
+          let z : hard-arguments d ≡ [] = cleared-list regular (searched-in-range d a) (sym (r .1)) in (
             r .2 ∙ ap length z,
             searched-leaves (r .0) .1 ∙ nothing-over old z,
             λ x h. phases-correct a .first-none (sym (r .1)) x h,

@@ -48,8 +48,8 @@ verdicts k {p} range = segment.promised .verdicts k _ _ _ _ _ (covering-accepted
 cleared : (k : Search) {p : Parabola} → In-range p → verdict k (covering p) ≡ Clear → (x : ℕ) → Hard p x → ⊥
 cleared k {p} range e = arc.promised .arcs (as-arc p) .clear k (arc.promised .arcs (as-arc p) .verdict-is k range ∙ e) .1
 
-pub nothing-listed : (k : Search) {p : Parabola} → In-range p → verdict k (covering p) ≡ Clear → hard-list p ≡ []
-nothing-listed k {p} range e = none-listed k (as-arc p) (arc.promised .arcs (as-arc p) .verdict-is k range ∙ e)
+pub cleared-list : (k : Search) {p : Parabola} → In-range p → verdict k (covering p) ≡ Clear → hard-list p ≡ []
+cleared-list k {p} range e = none-listed k (as-arc p) (arc.promised .arcs (as-arc p) .verdict-is k range ∙ e)
 
 module _ {d : Domain} (a : Accepted d) where
   -- the parts of the parabola that the phases search

@@ -7,11 +7,12 @@ use native.Mathlib.Nat.{mod-zero}
 use native.Mathlib.Omega.{arith}
 use Rattle.numbers.specs.Checklist.{unless-refused}
 use Rattle.numbers.specs.Integers.{_modulo_}
-use Rattle.numbers.specs.Lists.{filter-range, count-if, tabulate, joined}
+use Rattle.numbers.specs.Lists.{count-if, tabulate, joined}
 use Rattle.numbers.specs.Promise.{Conditions-correct, Selection-correct, Buffers-correct, Promised}
 use Rattle.numbers.proofs.Checklists.{refuses, accepts}
 use Rattle.numbers.proofs.Integers.{mod-below, mod-multiple}
-use Rattle.numbers.proofs.Pieces.{pieces-correct}
+use Rattle.numbers.proofs.Selections.{filter-none, filter-hit, filter-miss}
+use Rattle.numbers.proofs.Pieces.{joined-none, pieces-correct}
 use Rattle.numbers.proofs.Buffers.{front-correct}
 
 conditions-correct : Conditions-correct
@@ -29,12 +30,12 @@ conditions-correct =
     }
 
 selection-correct : (property : ℕ → Bool) → Selection-correct property
-unfolding filter-range count-if
+unfolding count-if
 selection-correct p =
     record {
-      none-left = λ x. refl;
-      taken = λ n x e. rw e;
-      passed = λ n x e. rw e;
+      none-left = filter-none p;
+      taken = filter-hit p;
+      passed = filter-miss p;
       none-counted = λ x. refl;
       counted = λ n x e. rw e (omega arith);
       not-counted = λ n x e. rw e (omega arith);
@@ -61,7 +62,7 @@ promised =
       remainders = λ z M. record { in-range = λ positive. mod-below positive z; multiple = λ positive. mod-multiple positive z };
       remainders-by-zero = λ n. (mod-zero n, omega arith);
       selections = selection-correct;
-      sequences = unfold tabulate joined in record { no-value = λ f i. refl; value-more = λ f n i. refl; no-list = λ f i. refl; list-more = λ f n i. refl };
+      sequences = unfold tabulate joined in record { no-value = λ f i. refl; value-more = λ f n i. refl; no-list = joined-none; list-more = λ f n i. refl };
       pieces = pieces-correct;
       buffers = buffers-correct;
     }

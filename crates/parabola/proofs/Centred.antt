@@ -1,5 +1,5 @@
 -- The centred parabola: its values are the values raised by w - 1, so that an argument is hard exactly where V(x) is near a multiple of the modulus on
--- either side; its covering segment is document 02's, and its parts are the parts, centred. Assumes nothing.
+-- either side; its covering segment is document 02's, and its parts are those of the parabola, each centred. Assumes nothing.
 use mathlib.Core.Path.{_≡_, refl, sym, _∙_, ap, subst}
 use mathlib.Core.Logic.{_↔_, _⊎_, inl, inr, ⊎-elim, by-cases}
 use Prim.Native.Nat.{ℕ, suc, _+_, _-_, _*_, _%_, _≤_, _<_, min}

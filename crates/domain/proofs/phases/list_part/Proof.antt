@@ -4,12 +4,12 @@ use native.Mathlib.Omega.{arith}
 use borrow.Author.Needs.{needs}
 use Rattle.parabola.specs.Parabola.{part-count}
 use Rattle.parabola.proofs.Promises.{promised}
-use Rattle.domain.proofs.Parts.{start-most, some-argument, nothing-listed}
+use Rattle.domain.proofs.Parts.{start-most, some-argument, nothing-written}
 use Rattle.domain.proofs.phases.list_part.Statement.{statement}
 use Rattle.domain.proofs.phases.list_part.Tie as tie
 
 nothing-hard : tie.Need-returns
-nothing-hard c = let s = c .before .before in nothing-listed _ _ _ _ (s .pre .1 .1 .0) (c .if1 .taken)
+nothing-hard c = let s = c .before .before in nothing-written _ _ _ _ (s .pre .1 .1 .0) (c .if1 .taken)
 
 -- a part with hard arguments has arguments
 some : (c : tie.Else1) → 1 ≤ part-count (c .before .before .args .arc .count) (c .before .before .args .i)
