@@ -41,7 +41,7 @@ impl Domain {
     /// The covering segment of both sides.
     #[inline(always)]
     fn covering(&self) -> Segment {
-        let (deviation, raise) = (self.deviation(), self.window.saturating_sub(1));
+        let (deviation, raise) = (self.deviation(), self.window - 1);
         let value = add_and_correct(self.value, raise, self.modulus);
         Segment {
             modulus: self.modulus,
@@ -308,10 +308,10 @@ fn count_either_side(domain: &Domain, add: impl Fn(u64, u64, u64) -> u64) -> u64
 /// The same by one test of values that are raised by w - 1.
 #[inline(never)]
 fn count_raised(domain: &Domain, add: impl Fn(u64, u64, u64) -> u64) -> u64 {
-    let raise = domain.window.saturating_sub(1);
-    let bound = domain.modulus.min(domain.window + raise);
+    let raise = domain.window - 1;
+    let highest = (domain.modulus - 1).min(raise + raise);
     let raised = Domain { value: add_and_correct(domain.value, raise, domain.modulus), ..*domain };
-    count_domain(&raised, add, |value| value < bound)
+    count_domain(&raised, add, |value| value <= highest)
 }
 
 /// Scans of segments of which no argument is hard, so that none is listed: one pass.

@@ -238,7 +238,7 @@ pub fn refusal(modulus: u64, step: u64, start: u64, count: u64, window: u64) -> 
         3
     } else if count < 1 || count > 1 << 20 {
         4
-    } else if window > modulus {
+    } else if window < 1 || window > modulus {
         5
     } else {
         0

@@ -18,7 +18,7 @@
  *     2   step or slope not below the modulus
  *     3   start or value not below the modulus
  *     4   count not 1 to 1,048,576
- *     5   window above the modulus
+ *     5   window 0 or above the modulus
  *     6   curve below -1,048,576 or above 1,048,576
  *     7   more hard arguments than the list has places
  *
@@ -93,7 +93,7 @@ uint32_t geyserdish_expand(
  *     2   step not below the modulus
  *     3   start not below the modulus
  *     4   count not 1 to 1,048,576
- *     5   window above the modulus
+ *     5   window 0 or above the modulus
  * and leaves shown as it was.
  */
 uint32_t geyserdish_regular_search(
@@ -124,7 +124,7 @@ uint32_t geyserdish_regular_search(
  *     2   step not below the modulus
  *     3   start not below the modulus
  *     4   count not 1 to 1,048,576
- *     5   window above the modulus
+ *     5   window 0 or above the modulus
  * and leaves shown as it was.
  */
 uint32_t geyserdish_fine_search(
@@ -147,7 +147,7 @@ uint32_t geyserdish_fine_search(
  *     2   step not below the modulus
  *     3   start not below the modulus
  *     4   count not 1 to 1,048,576
- *     5   window above the modulus
+ *     5   window 0 or above the modulus
  *     7   more hard arguments than places
  * and leaves list and *listed as they were.
  */
@@ -178,7 +178,7 @@ uint32_t geyserdish_scan_segment(
  *     2   slope not below the modulus
  *     3   value not below the modulus
  *     4   count not 1 to 1,048,576
- *     5   window above the modulus
+ *     5   window 0 or above the modulus
  *     6   curve below -1,048,576 or above 1,048,576
  *     7   more hard arguments than places
  * and leaves list, marks and searched as they were.

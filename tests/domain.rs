@@ -283,7 +283,7 @@ fn curves_above_the_modulus() -> Result<Tally, String> {
     random_domains(3, 8_000, |random, _| {
         let (modulus, count) = (1 + random.sized(MOST - 1), random_count(random, 128));
         let size = modulus + random.below(MOST - modulus + 1);
-        let window = one_of(random, &[0, 1, modulus / 5, modulus]);
+        let window = one_of(random, &[0, 1, 1 + modulus / 5, modulus]);
         Domain { curve: signed(random, size), window, ..somewhere(random, modulus, count) }
     })
 }
@@ -321,11 +321,12 @@ fn windows_where_a_verdict_changes() -> Result<Tally, String> {
         let domain = somewhere(random, modulus, count);
         let parts = domain.parts().into_iter().filter(|part| part.count > 0).collect::<Vec<_>>();
         let of = if i % 3 == 0 { domain } else { one_of(random, &parts) };
-        let covering = of.covering();
+        let covering = Domain { window: 1, ..of }.covering();
         let reached = if i % 3 == 0 { covering.regular_reached() } else { covering.fine_reached() };
         // A larger window clears no more; at the modulus nothing is clear.
-        let possible = reference::first(modulus + 1, |window| !Domain { window, ..of }.covering().clear(&reached));
-        Domain { window: possible.saturating_sub(i as u64 % 2), ..domain }
+        let clears = |window| Domain { window, ..of }.covering().clear(&reached);
+        let possible = 1 + reference::first(modulus, |below| !clears(below + 1));
+        Domain { window: possible - i as u64 % 2, ..domain }
     })
 }
 
@@ -345,7 +346,7 @@ fn realistic_domains() -> Result<Tally, String> {
         let modulus = (1 << 60) - random.below(1 << 59);
         let size = random.below([40, 1 << 14][i / 4 % 2]);
         // From mostly cleared to some hard ones.
-        let window = random.below(modulus >> [29, 18, 14, 11][i % 4]);
+        let window = 1 + random.below(modulus >> [29, 18, 14, 11][i % 4]);
         let (value, slope) = (random.below(modulus), random.below(modulus));
         domain(modulus, value, slope, signed(&mut random, size), 1 << 15, window)
     }))
@@ -376,7 +377,7 @@ fn largest_count() -> Result<Tally, String> {
     }
     // Curves so small that parts may be clear.
     let mut random = Random(SEED + 12);
-    for (curve, window) in [(1, 0), (-1, 1), (0, 1), (0, m >> 22), (2, m >> 21), (-2, m >> 21), (9, m >> 19), (-9, 0)] {
+    for (curve, window) in [(1, 1), (-1, 1), (0, 1), (0, m >> 22), (2, m >> 21), (-2, m >> 21), (9, m >> 19), (-9, 1)] {
         let (value, slope) = (random.below(m - 57), random.below(m - 57));
         domains.extend([MOST, MOST - 1, MOST - 7].map(|count| domain(m - 57, value, slope, curve, count, window)));
     }
@@ -449,10 +450,10 @@ fn parts_of_the_reference() -> Result<String, String> {
     Ok(format!("{values} values"))
 }
 
-/// Document 01's examples that concern domains, as 02 leaves them, and some of 2.1 and 2.2: cleared or not, the marks and the list.
+/// Document 01's examples that concern domains, as 02 leaves them, and some of 2.1 to 2.3: cleared or not, the marks and the list.
 fn settled_examples() -> Result<Tally, String> {
     let all_eight = [0, 1, 2, 3, 4, 5, 6, 7];
-    let examples: [(&str, Domain, u64, [u8; 8], &[u32]); 13] = [
+    let examples: [(&str, Domain, u64, [u8; 8], &[u32]); 15] = [
         ("P10", domain(45, 44, 31, 0, 16, 3), 0, [2, 2, 1, 1, 1, 1, 1, 1], &[0, 3]),
         ("P11", domain(45, 0, 0, 1, 8, 1), 0, [2, 2, 1, 1, 1, 1, 1, 1], &[0, 1]),
         ("P11", domain(45, 0, 0, -1, 8, 1), 0, [2, 2, 1, 1, 1, 1, 1, 1], &[0, 1]),
@@ -466,6 +467,8 @@ fn settled_examples() -> Result<Tally, String> {
         ("2.2", domain(45, 0, 40, 1, 12, 2), 0, [2, 1, 1, 1, 1, 1, 1, 2], &[0, 11]),
         ("2.2", domain(45, 0, 4, -1, 12, 2), 0, [2, 1, 1, 1, 1, 2, 1, 1], &[0, 9]),
         ("2.2", domain(11, 5, 0, 0, 3, 5), 1, [0; 8], &[]),
+        ("2.3", domain(45, 44, 31, 0, 16, 1), 1, [0; 8], &[]),
+        ("2.3", domain(45, 44, 31, 0, 3, 45), 0, [2, 2, 2, 3, 3, 3, 3, 3], &[0, 1, 2]),
     ];
     for (name, domain, cleared, marks, list) in examples {
         let shown = Shown { marks: &marks, numbers: &[cleared, list.len() as u64] };
@@ -490,11 +493,12 @@ fn verdicts_by_spread() -> Result<Tally, String> {
     all(examples.map(|example| example.0))
 }
 
-/// Document 01's examples without a mark that concern domains, as 02 leaves them, and two more counts that 02 accepts.
+/// Document 01's examples without a mark that concern domains, as 02 leaves them, two more counts that 02 accepts, and a window of 0 (2.3): 5 comes
+/// after 4 and before 6.
 fn settled_refusals() -> Result<Tally, String> {
     let refusals = [
-        (domain(1, 0, 0, 0, 8, 0), 1),
-        (domain(2, 0, 0, 0, 8, 0), 0),
+        (domain(1, 0, 0, 0, 8, 1), 1),
+        (domain(2, 0, 0, 0, 8, 1), 0),
         (domain(45, 44, 31, 0, 0, 3), 4),
         (domain(45, 44, 31, 0, 1_048_577, 3), 4),
         (domain(45, 44, 31, 0, 12, 3), 0),
@@ -502,6 +506,12 @@ fn settled_refusals() -> Result<Tally, String> {
         (domain(45, 9, 0, 0, 1_048_575, 9), 0),
         (domain(45, 44, 31, 0, 16, 45), 0),
         (domain(45, 44, 31, 0, 16, 46), 5),
+        (domain(45, 44, 31, 0, 16, 1), 0),
+        (domain(45, 44, 31, 0, 16, 0), 5),
+        (domain(45, 44, 31, 0, 0, 0), 4),
+        (domain(45, 44, 31, LARGEST_CURVE + 1, 16, 0), 5),
+        (domain(45, 44, 31, LARGEST_CURVE + 1, 0, 0), 4),
+        (domain(45, 44, 31, LARGEST_CURVE + 1, 16, 1), 6),
         (domain(45, 44, 31, i64::MIN, 16, 3), 6),
         (domain(45, 44, 31, i64::MAX, 16, 3), 6),
     ];
@@ -578,21 +588,24 @@ fn every_set_of_scan_refusals() -> Result<Tally, String> {
     }
 }
 
-/// Document 01's example P9, its refusals that concern scans, and 7.
+/// Document 01's example P9, its refusals that concern scans, as 02 leaves them, and 7.
 fn settled_scans() -> Result<Tally, String> {
     let examples: [([u64; 5], &[u32]); 3] =
-        [([45, 14, 44, 16, 6], &[3, 6]), ([45, 14, 44, 16, 3], &[3]), ([45, 14, 44, 16, 0], &[])];
+        [([45, 14, 44, 16, 6], &[3, 6]), ([45, 14, 44, 16, 3], &[3]), ([45, 14, 44, 3, 45], &[0, 1, 2])];
     for (fields, list) in examples {
         let shown = Shown { marks: &[], numbers: &[list.len() as u64] };
         check(&segment(fields), list, &shown).map_err(|why| format!("P9: {why}"))?;
     }
     let refusals = [
-        ([1, 0, 0, 1, 0], 0, 1),
-        ([2, 0, 0, 1, 0], 0, 0),
+        ([1, 0, 0, 1, 1], 1, 1),
+        ([2, 0, 0, 1, 1], 1, 0),
         ([45, 14, 44, 0, 1], 16, 4),
         ([45, 14, 44, 1_048_577, 1], 16, 4),
         ([45, 14, 44, 16, 45], 16, 0),
         ([45, 14, 44, 16, 46], 16, 5),
+        ([45, 14, 44, 16, 0], 16, 5),
+        ([45, 14, 44, 16, 0], 0, 5),
+        ([45, 14, 44, 0, 0], 16, 4),
         ([45, 14, 44, 16, 6], 1, 7),
         ([45, 14, 44, 16, 6], 2, 0),
     ];

@@ -15,10 +15,11 @@ pub fn signed(random: &mut Random, size: u64) -> i64 {
     one_of(random, &[size as i64, -(size as i64)])
 }
 
-/// Windows dense and sparse.
+/// Windows dense and sparse, from 1 to the modulus; one in 32 is 0.
 pub fn window(random: &mut Random, modulus: u64, count: u64) -> u64 {
-    let (even, sparse) = (random.below(modulus + 1), random.below(modulus / count + 1));
-    one_of(random, &[0, 1, modulus, even, sparse, sparse, sparse / 8, sparse / 8])
+    let (even, sparse) = (1 + random.below(modulus), 1 + random.below((modulus / count).max(1)));
+    let some = one_of(random, &[1, modulus, even, sparse, sparse, sparse, sparse.div_ceil(8), sparse.div_ceil(8)]);
+    if random.below(32) == 0 { 0 } else { some }
 }
 
 /// Curves of any size, none, and mostly such that a search may clear the domain or some of its parts: with D below the modulus

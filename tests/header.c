@@ -183,17 +183,19 @@ struct refused_segment {
 
 static const struct refused_segment REFUSED_SEGMENTS[] = {
     {"modulus 0", {0, 0, 0, 1, 0}, 1},
-    {"modulus 1", {1, 0, 0, 1, 0}, 1},
+    {"modulus 1", {1, 0, 0, 1, 1}, 1},
     {"modulus 2^62 + 1", {LARGEST + 1, 14, 44, 16, 1}, 1},
     {"step M", {45, 45, 44, 16, 1}, 2},
     {"start M", {45, 14, 45, 16, 1}, 3},
     {"count 0", {45, 14, 44, 0, 1}, 4},
     {"count 1048577", {45, 14, 44, 1048577, 1}, 4},
+    {"window 0", {45, 14, 44, 16, 0}, 5},
     {"window M + 1", {45, 14, 44, 16, 46}, 5},
     {"nothing accepted", {1, 1, 1, 0, 2}, 1},
     {"only the modulus accepted", {45, 45, 45, 0, 46}, 2},
     {"only modulus and step accepted", {45, 14, 45, 0, 46}, 3},
     {"only modulus, step and start accepted", {45, 14, 44, 0, 46}, 4},
+    {"count 0 and window 0", {45, 14, 44, 0, 0}, 4},
 };
 
 enum { REFUSED_SEGMENT_COUNT = sizeof REFUSED_SEGMENTS / sizeof REFUSED_SEGMENTS[0] };
@@ -260,9 +262,10 @@ static void check_regular_searches(void) {
         {"P7", {45, 44, 0, 3, 1}, {45, 2, 0, 0, 0}},
         {"P8, window 44", {45, 14, 44, 1, 44}, {1, 0, 44, 0, 1}},
         {"P8, window M", {45, 14, 44, 1, 45}, {1, 0, 44, 0, 0}},
-        {"window 0", {45, 14, 44, 17, 0}, {29, 3, 0, 16, 1}},
+        {"P2, window 2", {45, 14, 44, 16, 2}, {16, 2, 2, 3, 1}},
+        {"P2, window 3", {45, 14, 44, 16, 3}, {16, 2, 2, 3, 0}},
         {"window M", {45, 14, 44, 16, 45}, {16, 2, 2, 3, 0}},
-        {"modulus 2", {2, 0, 0, 1, 0}, {1, 0, 0, 0, 1}},
+        {"modulus 2", {2, 0, 0, 1, 1}, {1, 0, 0, 0, 0}},
         {"modulus 2^62, window 2^62 - 1", {LARGEST, 1, LARGEST - 1, 1, LARGEST - 1}, {1, 0, LARGEST - 1, 0, 1}},
         {"modulus 2^62, window 2^62", {LARGEST, 1, LARGEST - 1, 1, LARGEST}, {1, 0, LARGEST - 1, 0, 0}},
         {"modulus 2^62, count 1048576", {LARGEST, 1, 1048576, 1048576, 1}, {LARGEST, 1, 0, 1048576, 0}},
@@ -293,9 +296,10 @@ static void check_fine_searches(void) {
         {"P7", {45, 44, 0, 3, 1}, {3, 1, 1, 0, 0, 0}},
         {"P8, window 44", {45, 14, 44, 1, 44}, {1, 0, 0, 44, 0, 1}},
         {"P8, window M", {45, 14, 44, 1, 45}, {1, 0, 0, 44, 0, 0}},
-        {"window 0", {45, 14, 44, 17, 0}, {29, 3, 0, 0, 16, 1}},
+        {"P2, window 2", {45, 14, 44, 16, 2}, {16, 2, 0, 2, 3, 1}},
+        {"P2, window 3", {45, 14, 44, 16, 3}, {16, 2, 0, 2, 3, 0}},
         {"window M", {45, 14, 44, 16, 45}, {16, 2, 0, 2, 3, 0}},
-        {"modulus 2", {2, 0, 0, 1, 0}, {1, 0, 0, 0, 0, 1}},
+        {"modulus 2", {2, 0, 0, 1, 1}, {1, 0, 0, 0, 0, 0}},
         {"modulus 2^62, window 2^62 - 1", {LARGEST, 1, LARGEST - 1, 1, LARGEST - 1}, {1, 0, 0, LARGEST - 1, 0, 1}},
         {"modulus 2^62, window 2^62", {LARGEST, 1, LARGEST - 1, 1, LARGEST}, {1, 0, 0, LARGEST - 1, 0, 0}},
         {"modulus 2^62, count 1048576", {LARGEST, 1, 1048576, 1048576, 1}, {1048576, 0, 1048575, 1, 1048575, 1}},
@@ -336,7 +340,7 @@ static void check_scans(void) {
     } accepted[] = {
         {"P9, window 6", {45, 14, 44, 16, 6}, 2, {3, 6}},
         {"P9, window 3", {45, 14, 44, 16, 3}, 1, {3}},
-        {"P9, window 0", {45, 14, 44, 16, 0}, 0, {0}},
+        {"P9's segment, window 2", {45, 14, 44, 16, 2}, 0, {0}},
         {"window M", {45, 14, 44, 16, 45}, 16, {0, 1, 2, 3, 4, 5, 6, 7, 8, 9, 10, 11, 12, 13, 14, 15}},
         {"modulus 2", {2, 0, 0, 1, 1}, 1, {0}},
         {"modulus 2^62, window 2^62 - 1", {LARGEST, 1, LARGEST - 1, 1, LARGEST - 1}, 0, {0}},
@@ -352,7 +356,8 @@ static void check_scans(void) {
         struct lent list = fresh("list", 4, 4);
         check_scan_into(list, REFUSED_SEGMENTS[i].example, REFUSED_SEGMENTS[i].segment, REFUSED_SEGMENTS[i].refusal, NULL, 0);
     }
-    check_scan_into(nowhere(), "P9, window 0, null", (struct segment){45, 14, 44, 16, 0}, 0, NULL, 0);
+    check_scan_into(nowhere(), "P9's segment, window 2, null", (struct segment){45, 14, 44, 16, 2}, 0, NULL, 0);
+    check_scan_into(nowhere(), "P9, window 0, null", (struct segment){45, 14, 44, 16, 0}, 5, NULL, 0);
     check_scan_into(nowhere(), "P9, window 3, null", (struct segment){45, 14, 44, 16, 3}, 7, NULL, 0);
     check_scan_into(nowhere(), "count 0, null", (struct segment){45, 14, 44, 0, 3}, 4, NULL, 0);
 }
@@ -396,10 +401,11 @@ static void check_domain(const char *example, struct domain d, const struct answ
 }
 
 /*
- * What the documents' examples leave open. With curve 0 the covering segment has the domain's values, raised by w - 1 (by nothing for
- * window 0), as its residues: it is clear for window 0 and possible for window M. So it is for a part with one argument. With value 1
+ * What the documents' examples leave open. With curve 0 the covering segment has the domain's values, raised by w - 1, as its residues:
+ * for J's numbers and window 1 it is P2's segment, and for window M it is possible. So it is for a part with one argument. With value 1
  * and slope 0 the values are 1, 1, 2, 4, 7, .. for curve 1 and 1, 1, 0, 43, 40, .. for curve -1; with count 8 and window 1 the covering
- * segment has step 0, window 1 + 28, and start 1 + 28 for curve 1 but 1 for curve -1. With curve 1048576 or -1048576 its window is M.
+ * segment has step 0, window 1 + 28, and start 1 + 28 for curve 1 but 1 for curve -1. With curve 1048576, which is 31 modulo 45, or with
+ * -1048576 its window is M; with value 14 and slope 0 the values are 14, 14, 0, 17, 20, 9, 29, 35 or 14, 14, 28, 11, 8, 19, 44, 38.
  * The two curves with count 12 have the values 0, 40, 36, 33, 31, 30, 30, 31, 33, 36, 40, 0 and 0, 4, 7, 9, 10, 10, 9, 7, 4, 0, 40, 34:
  * only the parts with a 0 come near a multiple of 45.
  */
@@ -419,7 +425,7 @@ static void check_accepted_domains(void) {
         {"P11, curve -1", {45, 0, 0, -1, 8, 1}, {{2, 2, 1, 1, 1, 1, 1, 1}, {0, 2}, {0, 1}}},
         {"value 1, curve 1", {45, 1, 0, 1, 8, 1}, {{0, 0, 0, 0, 0, 0, 0, 0}, {1, 0}, {0}}},
         {"value 1, curve -1", {45, 1, 0, -1, 8, 1}, {{1, 1, 2, 1, 1, 1, 1, 1}, {0, 1}, {2}}},
-        {"J with window 0", {45, 44, 31, 0, 16, 0}, {{0, 0, 0, 0, 0, 0, 0, 0}, {1, 0}, {0}}},
+        {"J with window 1", {45, 44, 31, 0, 16, 1}, {{0, 0, 0, 0, 0, 0, 0, 0}, {1, 0}, {0}}},
         {"J with window M",
          {45, 44, 31, 0, 16, 45},
          {{2, 2, 2, 2, 2, 2, 2, 2}, {0, 16}, {0, 1, 2, 3, 4, 5, 6, 7, 8, 9, 10, 11, 12, 13, 14, 15}}},
@@ -433,8 +439,8 @@ static void check_accepted_domains(void) {
         {"modulus 2^62, window 2^62",
          {LARGEST, LARGEST - 1, 0, 0, 8, LARGEST},
          {{2, 2, 2, 2, 2, 2, 2, 2}, {0, 8}, {0, 1, 2, 3, 4, 5, 6, 7}}},
-        {"curve 1048576", {45, 0, 0, 1048576, 8, 0}, {{1, 1, 1, 1, 1, 1, 1, 1}, {0, 0}, {0}}},
-        {"curve -1048576", {45, 0, 0, -1048576, 8, 0}, {{1, 1, 1, 1, 1, 1, 1, 1}, {0, 0}, {0}}},
+        {"curve 1048576", {45, 14, 0, 1048576, 8, 1}, {{1, 1, 2, 1, 1, 1, 1, 1}, {0, 1}, {2}}},
+        {"curve -1048576", {45, 14, 0, -1048576, 8, 1}, {{1, 1, 1, 1, 1, 1, 1, 1}, {0, 0}, {0}}},
         {"count 1048576", {45, 9, 0, 0, 1048576, 9}, {{0, 0, 0, 0, 0, 0, 0, 0}, {1, 0}, {0}}},
         {"count 1048575", {45, 9, 0, 0, 1048575, 9}, {{0, 0, 0, 0, 0, 0, 0, 0}, {1, 0}, {0}}},
         {"2.2, J with count 12", {45, 44, 31, 0, 12, 3}, {{2, 2, 1, 1, 1, 1, 1, 1}, {0, 2}, {0, 3}}},
@@ -457,13 +463,14 @@ static void check_refused_domains(void) {
         struct domain domain;
         uint32_t refusal;
     } refused[] = {
-        {"modulus 1", {1, 0, 0, 0, 16, 0}, 1},
+        {"modulus 1", {1, 0, 0, 0, 16, 1}, 1},
         {"modulus 2^62 + 1", {LARGEST + 1, 44, 31, 0, 16, 3}, 1},
         {"slope M", {45, 44, 45, 0, 16, 3}, 2},
         {"value M", {45, 45, 31, 0, 16, 3}, 3},
         {"count 0", {45, 44, 31, 0, 0, 3}, 4},
         {"count 1048577", {45, 44, 31, 0, 1048577, 3}, 4},
         {"count 1048584", {45, 44, 31, 0, 1048584, 3}, 4},
+        {"window 0", {45, 44, 31, 0, 16, 0}, 5},
         {"window M + 1", {45, 44, 31, 0, 16, 46}, 5},
         {"curve 1048577", {45, 44, 31, 1048577, 16, 3}, 6},
         {"curve -1048577", {45, 44, 31, -1048577, 16, 3}, 6},
@@ -473,7 +480,9 @@ static void check_refused_domains(void) {
         {"only the modulus accepted", {45, 45, 45, 1048577, 0, 46}, 2},
         {"only modulus and slope accepted", {45, 45, 31, 1048577, 0, 46}, 3},
         {"window, curve and count not accepted", {45, 44, 31, 1048577, 0, 46}, 4},
+        {"count 0 and window 0", {45, 44, 31, 0, 0, 0}, 4},
         {"window and curve not accepted", {45, 44, 31, 1048577, 16, 46}, 5},
+        {"window 0 and curve not accepted", {45, 44, 31, 1048577, 16, 0}, 5},
         {"curve and places not accepted", {45, 44, 31, 1048577, 16, 45}, 6},
         {"count 1048576, window 10", {45, 9, 0, 0, 1048576, 10}, 7},
     };
@@ -484,7 +493,8 @@ static void check_refused_domains(void) {
 
 static void check_domains_without_list(void) {
     const struct answer cleared = {{0}, {1, 0}, {0}};
-    check_domain_into(nowhere(), "J with window 0, null", (struct domain){45, 44, 31, 0, 16, 0}, 0, &cleared);
+    check_domain_into(nowhere(), "J with window 1, null", (struct domain){45, 44, 31, 0, 16, 1}, 0, &cleared);
+    check_domain_into(nowhere(), "J with window 0, null", (struct domain){45, 44, 31, 0, 16, 0}, 5, NULL);
     check_domain_into(nowhere(), "J, null", (struct domain){45, 44, 31, 0, 16, 3}, 7, NULL);
     check_domain_into(nowhere(), "count 0, null", (struct domain){45, 44, 31, 0, 0, 3}, 4, NULL);
 }

@@ -173,7 +173,7 @@ fn all(program: &str, cases: &[Case]) -> Result<Tally, String> {
     Ok(Tally::of(cases))
 }
 
-/// Document 01's examples that concern domains, as 02 leaves them, some of 2.1 and 2.2 and others: printed by hand, and by the reference.
+/// Document 01's examples that concern domains, as 02 leaves them, some of 2.1 to 2.3 and others: printed by hand, and by the reference.
 fn settled_examples() -> Vec<Case> {
     let j = "modulus=45\nvalue=44\nslope=31\ncurve=0\ncount=16\nwindow=3\n";
     let p11 = "first=possible\nparts=22111111\nlisted=2\nargument=0\nargument=1\n";
@@ -189,7 +189,7 @@ fn settled_examples() -> Vec<Case> {
         (Domain { value: 1, ..P11 }.text(), cleared),
         (Domain { value: 17, ..P11 }.text(), "first=possible\nparts=11111111\nlisted=0\n"),
         (Domain { value: 4, slope: 16, curve: -2, count: 24, window: 2, ..J }.text(), scattered),
-        (Domain { modulus: 2, value: 0, slope: 0, window: 0, ..J }.text(), cleared),
+        (Domain { modulus: 2, value: 1, slope: 0, window: 1, ..J }.text(), cleared),
         (Domain { modulus: 10, value: 3, slope: 3, curve: 0, count: 8, window: 2 }.text(), either_side),
         (Domain { modulus: 11, value: 5, slope: 0, curve: 0, count: 8, window: 5 }.text(), cleared),
         (Domain { modulus: 11, value: 5, slope: 0, curve: 0, count: 8, window: 6 }.text(), &all_eight),
@@ -197,6 +197,11 @@ fn settled_examples() -> Vec<Case> {
         (Domain { count: 3, ..J }.text(), "first=possible\nparts=21133333\nlisted=1\nargument=0\n"),
         (Domain { count: 1, ..J }.text(), "first=possible\nparts=23333333\nlisted=1\nargument=0\n"),
         (Domain { modulus: 11, value: 5, slope: 0, curve: 0, count: 3, window: 5 }.text(), cleared),
+        (Domain { window: 1, ..J }.text(), cleared),
+        (Domain { window: 0, ..J }.text(), "refused=5\n"),
+        (Domain { window: 0, count: 0, ..J }.text(), "refused=4\n"),
+        (Domain { window: 0, curve: 1_048_577, ..J }.text(), "refused=5\n"),
+        (Domain { window: 1, curve: 1_048_577, ..J }.text(), "refused=6\n"),
     ];
     let both = |(text, output): (String, &str)| {
         let domain = reading(text.as_bytes()).unwrap();
@@ -221,16 +226,16 @@ fn ends_of_ranges() -> Vec<Case> {
     let mut cases = Vec::new();
     cases.extend([0, 1, LARGEST + 1, 1 << 63, u64::MAX].map(|modulus| refused(1, Domain { modulus, ..J })));
     for m in [2, 3, 45, LARGEST - 1, LARGEST] {
-        let least = Domain { modulus: m, value: 0, slope: 0, curve: 0, count: 8, window: 0 };
+        let least = Domain { modulus: m, value: 0, slope: 0, curve: 0, count: 8, window: 1 };
         cases.extend([least, Domain { value: m - 1, slope: m - 1, window: m, ..least }].map(accepted));
     }
     cases.extend([45, 46, (1 << 32) + 31, 1 << 63, u64::MAX].map(|slope| refused(2, Domain { slope, ..J })));
     cases.extend([45, 46, (1 << 32) + 44, 1 << 63, u64::MAX].map(|value| refused(3, Domain { value, ..J })));
     cases.extend([0, 1_048_577, 1_048_584, (1 << 32) + 16, 1 << 63].map(|count| refused(4, Domain { count, ..J })));
     cases.extend((1..=40).map(|count| accepted(Domain { count, ..J })));
-    cases.extend([1_048_568, 1_048_575, 1_048_576].map(|count| accepted(Domain { count, window: 0, ..J })));
-    cases.extend([46, 90, (1 << 32) + 3, 1 << 63, u64::MAX].map(|window| refused(5, Domain { window, ..J })));
-    cases.extend([0, 1, 44, 45].map(|window| accepted(Domain { window, ..J })));
+    cases.extend([1_048_568, 1_048_575, 1_048_576].map(|count| accepted(Domain { value: 9, slope: 0, count, window: 9, ..J })));
+    cases.extend([0, 46, 90, (1 << 32) + 3, 1 << 63, u64::MAX].map(|window| refused(5, Domain { window, ..J })));
+    cases.extend([1, 2, 44, 45].map(|window| accepted(Domain { window, ..J })));
     for sign in [1, -1] {
         let curve = |size: i64| Domain { curve: sign * size, ..J };
         cases.extend([1, LARGEST_CURVE - 1, LARGEST_CURVE].map(|size| accepted(curve(size))));
@@ -284,7 +289,13 @@ fn of_conditions(set: u32, large: bool) -> Domain {
             (_, 0) => 0,
             (_, _) => MOST + 1,
         },
-        window: if applies(5) + applies(7) == 0 { 0 } else { modulus + applies(5) },
+        // Without a window nothing is hard.
+        window: match (applies(5), applies(7)) {
+            (0, 0) => 1,
+            (0, _) => modulus,
+            (_, 0) if !large => 0,
+            (_, _) => modulus + 1,
+        },
         curve: if large { size } else { -size },
     }
 }
@@ -359,11 +370,11 @@ fn printed_numbers_of_every_length() -> Vec<Case> {
         // Hard at the power and just before it.
         let (value, count) = ((2 * MOST + 1 - 2 * power) % (2 * MOST), power + 1);
         cases.push(job(Domain { value, count, window: 2, ..LONGEST_LIST }));
-        // An even window makes as many odd values hard, and an odd one as many even values.
+        // An even window makes as many odd values hard, and an odd one as many even values; a window of 1 no odd value.
         let listed = [power - 1, power, power + 1].into_iter().filter(|&listed| listed <= PLACES as u64);
         cases.extend(listed.map(|listed| {
             let value = 17 + listed % 2;
-            let domain = Domain { modulus: 8192, value, slope: 2, curve: 0, count: 4096, window: listed };
+            let domain = Domain { modulus: 8192, value, slope: 2, curve: 0, count: 4096, window: listed.max(1) };
             assert_eq!(domain.hard().len() as u64, listed);
             job(domain)
         }));
@@ -403,7 +414,7 @@ fn realistic_jobs() -> Vec<Case> {
     random_jobs(7, 24, |random| {
         let modulus = (1 << 60) - random.below(1 << 59);
         let (most, size) = (modulus >> one_of(random, &[29, 18, 14, 11]), random.below(40));
-        let (curve, window) = (signed(random, size), random.below(most));
+        let (curve, window) = (signed(random, size), 1 + random.below(most));
         Domain { curve, window, ..somewhere(random, modulus, 1 << 15) }
     })
 }
@@ -411,7 +422,7 @@ fn realistic_jobs() -> Vec<Case> {
 fn largest_count() -> Vec<Case> {
     random_jobs(8, 6, |random| {
         let (most, size) = (LARGEST >> one_of(random, &[14, 20, 24]), random.below(4));
-        let (curve, window) = (signed(random, size), random.below(most));
+        let (curve, window) = (signed(random, size), 1 + random.below(most));
         let count = MOST - random.below(9);
         Domain { curve, window, ..somewhere(random, LARGEST - 57, count) }
     })

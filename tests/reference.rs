@@ -154,7 +154,7 @@ impl Segment {
             self.step >= self.modulus,
             self.start >= self.modulus,
             !(1..=MOST).contains(&self.count),
-            self.window > self.modulus,
+            !(1..=self.modulus).contains(&self.window),
         ]
     }
 
@@ -273,17 +273,16 @@ impl Domain {
         curve.abs() * (count * (count - 1) / 2)
     }
 
-    /// The covering segment: by 01 for w of 0, and else by 02, which adds w - 1 to the start and has 2w - 1 + D for the window.
+    /// The covering segment, by 02: the start gains w - 1, and the window is 2w - 1 + D.
     pub fn covering(&self) -> Segment {
         let (deviation, w) = (self.deviation(), self.window as i128);
         let start = if self.curve >= 0 { self.value as i128 + deviation } else { self.value as i128 };
-        let (start, window) = if w == 0 { (start, deviation) } else { (start + w - 1, 2 * w - 1 + deviation) };
         Segment {
             modulus: self.modulus,
             step: self.reduced(-(self.slope as i128)),
-            start: self.reduced(start),
+            start: self.reduced(start + w - 1),
             count: self.count,
-            window: window.min(self.modulus as i128) as u64,
+            window: (2 * w - 1 + deviation).min(self.modulus as i128) as u64,
         }
     }
 

@@ -109,7 +109,7 @@ impl fmt::Display for Tally {
     }
 }
 
-/// Compares both searches with the reference at the segment's window and at those where a verdict changes.
+/// Compares both searches with the reference at the segment's window and at those where a verdict changes; a window of 0 is refused.
 fn compare(segment: &Segment, tally: &mut Tally) -> Result<(), String> {
     if segment.refusal() != 0 {
         tally.refused += 1;
@@ -121,17 +121,18 @@ fn compare(segment: &Segment, tally: &mut Tally) -> Result<(), String> {
     }
     let [regular_least, fine_least] = [regular, fine].map(|reached| segment.least_below(reached.count as u64));
     let (near, far) = (regular_least.0, fine_least.0);
-    let mut windows = [segment.window, 0, segment.modulus, near, near + 1, far, far + 1];
+    let mut windows = [segment.window, 0, 1, segment.modulus, near, near + 1, far, far + 1];
     windows.sort();
     for window in windows.chunk_by(|a, b| a == b).map(|equal| equal[0]) {
         let segment = Segment { window, ..*segment };
         for (search, reached, least) in [(Regular, &regular, regular_least), (Fine, &fine, fine_least)] {
-            let (has, wanted) = (shown(search, &segment)?.unwrap(), search.words(reached, least, window));
+            let wanted = (window != 0).then(|| search.words(reached, least, window));
+            let has = shown(search, &segment)?;
             if has != wanted {
                 return search.wrong(&segment, &format!("{has:?} for {wanted:?}"));
             }
         }
-        tally.windows += 1;
+        tally.windows += (window != 0) as usize;
     }
     tally.segments.insert(segment.line());
     tally.highest = tally.highest.max(regular.index);
@@ -158,7 +159,7 @@ fn segment([modulus, step, start, count, window]: [u64; 5]) -> Segment {
 
 /// A random start and window beside what is given.
 fn somewhere(random: &mut Random, modulus: u64, step: u64, count: u64) -> Segment {
-    let (start, window) = (random.below(modulus), random.below(modulus / count + 1));
+    let (start, window) = (random.below(modulus), 1 + random.below((modulus / count).max(1)));
     Segment { modulus, step, start, count, window }
 }
 
@@ -182,7 +183,7 @@ fn small_segments() -> impl Iterator<Item = Segment> {
         (0..modulus).flat_map(move |step| {
             (0..modulus).flat_map(move |start| {
                 (1..modulus + 3).map(move |count| {
-                    let window = (step + start + count) % (modulus + 1);
+                    let window = 1 + (step + start + count) % modulus;
                     Segment { modulus, step, start, count, window }
                 })
             })
@@ -377,7 +378,7 @@ fn clear_is_right() -> Result<String, String> {
         let count = random.sized(4096);
         let segment = somewhere(&mut random, modulus, step, count);
         let (least, _) = segment.least(0..count);
-        let window = [least, least + 1, segment.window][i % 3];
+        let window = [least.max(1), least + 1, segment.window][i % 3];
         for search in [Regular, Fine] {
             if found(search, &Segment { window, ..segment })?.2 {
                 clear += 1;
@@ -398,8 +399,12 @@ fn smaller_stays_clear() -> Result<String, String> {
         let count = random.sized(MOST);
         let segment = somewhere(&mut random, modulus, step, count);
         for search in [Regular, Fine] {
+            // Nothing is clear where the distance is 0.
             let (window, ..) = found(search, &segment)?;
-            let less = Segment { count: 1 + random.below(count), window: random.below(window + 1), ..segment };
+            if window == 0 {
+                continue;
+            }
+            let less = Segment { count: 1 + random.below(count), window: 1 + random.below(window), ..segment };
             for segment in [Segment { window, ..segment }, Segment { window, ..less }, less] {
                 smaller += 1;
                 if !found(search, &segment)?.2 || !found(Fine, &segment)?.2 {
@@ -466,7 +471,8 @@ fn table_of_000() -> Result<Tally, String> {
     all((1..=60).flat_map(starts))
 }
 
-/// Document 01's examples P2 to P8: modulus, step, start, count, window; the words shown, as far as 01 tells them.
+/// Document 01's examples P2 to P8: modulus, step, start, count, window; the words shown, as far as 01 tells them. It tells no window for P6 to
+/// P8: they are run with all from 1 to 45.
 fn settled_examples() -> Result<Tally, String> {
     let any = None;
     let examples: [(&str, Search, [u64; 5], &[Option<u64>]); 13] = [
@@ -484,24 +490,34 @@ fn settled_examples() -> Result<Tally, String> {
         ("P8", Regular, [45, 14, 44, 1, 1], &[Some(1), any, Some(44), any, any]),
         ("P8", Fine, [45, 14, 44, 1, 1], &[Some(1), any, any, Some(44), any, any]),
     ];
+    let mut segments = Vec::new();
     for (name, search, fields, told) in examples {
-        let words = shown(search, &segment(fields))?.ok_or(name)?;
-        if words.len() != told.len() || words.iter().zip(told).any(|(word, told)| told.is_some_and(|t| t != *word)) {
-            return search.wrong(&segment(fields), &format!("{name}: {words:?}"));
+        let windows = if ["P6", "P7", "P8"].contains(&name) { 1..=45 } else { fields[4]..=fields[4] };
+        for segment in windows.map(|window| Segment { window, ..segment(fields) }) {
+            let words = shown(search, &segment)?.ok_or(name)?;
+            if words.len() != told.len() || words.iter().zip(told).any(|(word, told)| told.is_some_and(|t| t != *word)) {
+                return search.wrong(&segment, &format!("{name}: {words:?}"));
+            }
+            segments.push(segment);
         }
     }
-    all(examples.map(|example| segment(example.2)))
+    all(segments)
 }
 
-/// Document 01's examples without a mark that concern segments.
+/// Document 01's examples without a mark that concern segments, as 02 leaves them, and a window of 0 (2.3), also beside a count of 0.
 fn settled_refusals() -> Result<Tally, String> {
     let refusals = [
-        ([1, 0, 0, 1, 0], 1),
-        ([2, 0, 0, 1, 0], 0),
+        ([1, 0, 0, 1, 1], 1),
+        ([2, 0, 0, 1, 1], 0),
         ([45, 14, 44, 0, 1], 4),
         ([45, 14, 44, 1_048_577, 1], 4),
         ([45, 14, 44, 16, 45], 0),
         ([45, 14, 44, 16, 46], 5),
+        ([45, 14, 44, 16, 1], 0),
+        ([45, 14, 44, 16, 0], 5),
+        ([2, 0, 0, 1, 0], 5),
+        ([LARGEST, 1, 0, 1_048_576, 0], 5),
+        ([45, 14, 44, 0, 0], 4),
     ];
     for (fields, number) in refusals {
         for search in [Regular, Fine] {

@@ -34,17 +34,7 @@ module _ {p : Parabola} (range : In-range p) where
 
   pub covering-accepted : Accepted (covering p)
   unfolding covering-step covering-start covering-window
-  covering-accepted =
-      record {
-        searchable = record {
-          unit-within = range .unit-within;
-          step-below = mod-lt (p .unit - p .slope) positive;
-          start-below = by (p .curve);
-          count-low = range .count-low;
-          count-high = range .count-high;
-        };
-        window-within = omega arith;
-      }
+  covering-accepted = omega (arith, mod-lt (p .unit - p .slope) positive, by (p .curve), range)
     where
       by : (z : ℤ) → start-over z (p .unit) (p .value) (spread p) < p .unit
       by (pos n) = unfold start-over in mod-lt (p .value + spread p) positive
@@ -87,9 +77,9 @@ module _ {p : Parabola} (range : In-range p) {c : Covering} (e : c ≡ covering-
 -- ---- the verdict of an arc
 
 -- outside the bounds it is possible
-pub never-cleared : (k : Search) (a : Arc) {n : ℕ} → n ≡ refusal a → (n ≡ 0 → ⊥) → Possible ≡ arc-verdict k a
+pub never-cleared : (k : Search) (a : Arc) → (refusal (parabola a) ≡ 0 → ⊥) → Possible ≡ arc-verdict k a
 unfolding arc-verdict
-never-cleared k a {n} e h = rw (← e) (by n h)
+never-cleared k a h = by (refusal (parabola a)) h
   where
     by : (n : ℕ) → (n ≡ 0 → ⊥) → Possible ≡ verdict-with n k (parabola a)
     by zero h = absurd (h refl)
@@ -97,4 +87,4 @@ never-cleared k a {n} e h = rw (← e) (by n h)
 
 pub verdict-within : (k : Search) (a : Arc) → In-range (parabola a) → arc-verdict k a ≡ verdict k (covering (parabola a))
 unfolding arc-verdict verdict-with
-verdict-within k a range = rw (accepted a .1 range)
+verdict-within k a range = rw (accepted (parabola a) .1 range)

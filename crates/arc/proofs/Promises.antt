@@ -13,9 +13,9 @@ use Rattle.arc.proofs.Coverings.{covering-accepted, cleared, verdict-wi
 use Rattle.arc.proofs.Points.{inside, outside}
 
 -- what is cleared is within the bounds
-clear-within : (k : Search) (a : Arc) → arc-verdict k a ≡ Clear → refusal a ≡ 0
+clear-within : (k : Search) (a : Arc) → arc-verdict k a ≡ Clear → refusal (parabola a) ≡ 0
 unfolding arc-verdict
-clear-within k a e = by (refusal a) e
+clear-within k a e = by (refusal (parabola a)) e
   where
     by : (n : ℕ) → verdict-with n k (parabola a) ≡ Clear → n ≡ 0
     by zero e = omega arith
@@ -25,16 +25,26 @@ arc-correct : (a : Arc) → Arc-correct a
 unfolding value-at slope-at triangle
 arc-correct a =
     record {
-      numbers = (refl, refl, refl, refl, refl, refl);
-      refused = refused a;
-      accepted = accepted a;
-      inside = λ x range h. inside a x (accepted a .1 range) h;
-      outside = λ x. (λ e range h. outside a x .0 e (accepted a .1 range) h, λ n. outside a x .1 (λ e h. n (accepted a .0 e) h));
-      covering-accepted = covering-accepted;
+      numbers = (refl, refl, refl, refl, refl);
+      highest = λ v. (λ h. omega arith, λ h. omega arith);
+      inside = λ x range h. inside a x (accepted (parabola a) .1 range) h;
+      outside = λ x. (
+        λ e range h. outside a x .0 e (accepted (parabola a) .1 range) h,
+        λ n. outside a x .1 (λ e h. n (accepted (parabola a) .0 e) h),
+      );
       verdict-is = λ k. verdict-within k a;
-      clear = λ k e. let range = accepted a .0 (clear-within k a e) in
+      clear = λ k e. let range = accepted (parabola a) .0 (clear-within k a e) in
           (range, λ x h. omega (arith, h .1, cleared range k (sym (verdict-within k a range) ∙ e) x (h .0)));
     }
 
 pub promised : Promised
-promised = record { arcs = arc-correct }
+promised =
+    record {
+      asked-is = λ M c0 c1 s N w. refl;
+      refusals = λ p. record { refused = refused p; accepted = accepted p };
+      searched = λ p range. record {
+        covering-accepted = covering-accepted range;
+        cleared = λ k e x h. omega (arith, h .1, cleared range k e x (h .0));
+      };
+      arcs = arc-correct;
+    }

@@ -39,7 +39,7 @@ fn covering_window(arc: Arc) -> u64
     requires { ⌜ In-range (parabola arc) ⌝ }
     ensures { λ r. ⌜ r ≡ covering-window (parabola arc) ⌝ }
 {
-    min(arc.modulus, arc.window + spread(arc))
+    min(arc.modulus, arc.highest + spread(arc) + 1)
 }
 
 // How far the curve takes a value, at most.

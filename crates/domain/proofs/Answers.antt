@@ -25,7 +25,7 @@ use Rattle.arc.specs.Arc.{parabola, arc-verdict}
 use Rattle.arc.specs.Arc as arc
 use Rattle.arc.specs.declared.Arc.{Arc}
 use Rattle.arc.proofs.Promises as arc-promises
-use Rattle.domain.specs.Domain.{arc-of, parabola-of, centred-of, hard-arguments, covering-of, Accepted}
+use Rattle.domain.specs.Domain.{parabola-of, centred-of, hard-arguments, covering-of, Accepted}
 use Rattle.domain.specs.Phases.{marks-by, marks, report}
 use Rattle.domain.specs.Answer.{room, domain-number, answer-with, domain-answer, marks-after, list-after, too-few, marks-with, list-with, scan-number, scan-answer-with}
 use Rattle.domain.specs.declared.Domain.{Domain}
@@ -38,8 +38,8 @@ use Rattle.domain.proofs.Parts.{none-listed}
 
 -- ---- which domains are accepted
 
-pub accepted-iff : (d : Domain) → (arc.refusal (arc-of d) ≡ 0) ↔ Accepted d
-accepted-iff d = arc-promises.promised .arcs (arc-of d) .accepted
+pub accepted-iff : (d : Domain) → (arc.refusal (parabola-of d) ≡ 0) ↔ Accepted d
+accepted-iff d = arc-promises.promised .refusals (parabola-of d) .accepted
 
 -- the parabola that the phases search is within the bounds too
 pub searched-in-range : (d : Domain) → Accepted d → In-range (centred-of d)
@@ -52,18 +52,18 @@ room-iff xs places = let r = accepts (room xs places) (omega arith) in (λ e. r 
 pub number-accepts : (d : Domain) (places : ℕ) → (domain-number d places ≡ 0) ↔ (Accepted d × (length (hard-arguments d) ≤ places))
 unfolding domain-number
 number-accepts d places =
-    let r = neither-refuses (arc.checks (arc-of d)) (room (hard-arguments d) places) (omega arith) in
+    let r = neither-refuses (arc.checks (parabola-of d)) (room (hard-arguments d) places) (omega arith) in
     let m = room-iff (hard-arguments d) places in
     let a = accepted-iff d in
     (λ e. let h = r .0 e in (a .0 (unfold arc.refusal in h .0), m .0 (h .1)), λ h. r .1 (unfold arc.refusal in a .1 (h .0), m .1 (h .1)))
 
 -- of the numbers 1 to 5 it has the one that the segment with its slope for the step and its value for the start has
 pub number-as-segment : (d : Domain) (places : ℕ) {n : ℕ} → 1 ≤ n → n ≤ 5
-    → (domain-number d places ≡ n) ↔ (segment.refusal (arc.line-of (arc-of d)) ≡ n)
+    → (domain-number d places ≡ n) ↔ (segment.refusal (arc.line-of (parabola-of d)) ≡ n)
 unfolding domain-number segment.refusal
 number-as-segment d places {n} low high =
-    let cs = segment.checks (arc.line-of (arc-of d)) in
-    let ds = arc.curve-checks (arc-of d) ++ room (hard-arguments d) places in (
+    let cs = segment.checks (arc.line-of (parabola-of d)) in
+    let ds = arc.curve-checks (parabola-of d) ++ room (hard-arguments d) places in (
       λ e. by-cases (ℕ-discrete (first-failing cs) 0)
           (λ z. absurd
           (⊎-elim (λ h. omega (arith, h .0)) (λ h. ⊎-elim (λ k. omega (arith, k .0)) (λ k. k .1) (h .1))
@@ -115,10 +115,10 @@ Answered d old-marks old answer new-marks new =
 
 module _ (d : Domain) (old-marks old : List ℕ) where
   -- a refusal before anything is searched
-  pub domain-refused : {n : ℕ} → n ≡ arc.refusal (arc-of d) → (n ≡ 0 → ⊥) → Answered d old-marks old (domain-variants.Refused n) old-marks old
+  pub domain-refused : {n : ℕ} → n ≡ arc.refusal (parabola-of d) → (n ≡ 0 → ⊥) → Answered d old-marks old (domain-variants.Refused n) old-marks old
   unfolding domain-answer marks-after list-after domain-number arc.refusal
   domain-refused {n} e h =
-      rw (first-of-two (arc.checks (arc-of d)) (room (hard-arguments d) (length old)) (sym e) h)
+      rw (first-of-two (arc.checks (parabola-of d)) (room (hard-arguments d) (length old)) (sym e) h)
       (refused-with n (centred-of d) old-marks old h .0, (sym (refused-old n _ old-marks h), sym (refused-old n _ old h)))
 
   module _ (a : Accepted d) where
@@ -126,7 +126,7 @@ module _ (d : Domain) (old-marks old : List ℕ) where
     number-is : domain-number d (length old) ≡ too-few (centred-of d) (length old)
     unfolding domain-number too-few arc.refusal
     number-is =
-        second-of-two (arc.checks (arc-of d)) (room (hard-arguments d) (length old)) (accepts (arc.checks (arc-of d)) (omega arith) .0 (accepted-iff d .1 a))
+        second-of-two (arc.checks (parabola-of d)) (room (hard-arguments d) (length old)) (accepts (arc.checks (parabola-of d)) (omega arith) .0 (accepted-iff d .1 a))
 
     -- phase 1 clears it
     pub domain-cleared : {b : Arc} → parabola b ≡ centred-of d → arc-verdict regular b ≡ Clear
@@ -136,7 +136,7 @@ module _ (d : Domain) (old-marks old : List ℕ) where
         let r : In-range (parabola b) = rw e (searched-in-range d a) in
         let v : verdict regular (covering-of d) ≡ Clear
         = ap (λ (p : Parabola). verdict regular (covering p)) (sym e) ∙ sym (arc-promises.promised .arcs b .verdict-is regular r) ∙ c in
-        let nothing : hard-arguments d ≡ [] = ap hard-list (sym e) ∙ none-listed regular b c in
+        let nothing : hard-arguments d ≡ [] = none-listed regular (searched-in-range d a) v in
         rw (number-is, accepted (room (hard-arguments d) (length old)) (omega (arith, ap length nothing), tt), v, nothing) (refl, (refl, refl))
 
     -- or it does not
@@ -156,17 +156,7 @@ module _ (d : Domain) (old-marks old : List ℕ) where
 
 -- a segment that is accepted is a line within its bounds
 pub line-in-range : {s : Segment} → segment.Accepted s → In-range (line s)
-line-in-range {s} c =
-    let a = c .searchable in
-    record {
-      unit-within = a .unit-within;
-      slope-below = mod-lt (s .unit - s .step) (omega (arith, a .start-below));
-      value-below = a .start-below;
-      count-low = a .count-low;
-      count-high = a .count-high;
-      window-within = c .window-within;
-      size-small = omega arith;
-    }
+line-in-range {s} c = omega (arith, mod-lt (s .unit - s .step) {m = s .unit} (omega (arith, c .start-below)), c)
 
 -- the answer and the list
 abbrev Scan-leaves : (number : ℕ) → Segment → (old : List ℕ) → (answer : ScanAnswer) → (new : List ℕ) → Type 0

@@ -59,7 +59,7 @@ module _ (a : Arc) (range : In-range (parabola a)) {i : ℕ} (h : i < 8) (some :
 
   -- and is made of the value and the slope there
   pub part-made : {v s n : ℕ} → point-answer a (part-start (a .count) i) ≡ At v s → n ≡ part-count (a .count) i
-      → record { unit = a .modulus; value = v; slope = s; curve = read (a .curve); count = n; window = a .window } ≡ part (parabola a) i
+      → record { unit = a .modulus; value = v; slope = s; curve = read (a .curve); count = n; window = suc (a .highest) } ≡ part (parabola a) i
   unfolding continued
   part-made {v} {s} e l =
       let h = sym e ∙ part-point in
@@ -69,13 +69,12 @@ module _ (a : Arc) (range : In-range (parabola a)) {i : ℕ} (h : i < 8) (some :
 
 -- ---- one part
 
--- a part that is clear has no hard argument
-pub none-listed : (k : Search) (a : Arc) → arc-verdict k a ≡ Clear → hard-list (parabola a) ≡ []
+-- a parabola whose covering segment a search clears has no hard argument
+pub none-listed : (k : Search) {p : Parabola} → In-range p → verdict k (covering p) ≡ Clear → hard-list p ≡ []
 unfolding hard-list is-hard
-none-listed k a e =
-    let c = arc.promised .arcs a .clear k e .1 in
-    filter-empty (is-hard (parabola a)) (a .count) 0
-    (λ y l h. by-cases (decLe (a .window) (value-at (parabola a) y)) (λ k. le-ltb (value-at (parabola a) y) (a .window) k) (λ k. absurd (c y (omega arith, omega arith))))
+none-listed k {p} range e =
+    filter-empty (is-hard p) (p .count) 0
+    (λ y l h. by-cases (decLe (p .window) (value-at p y)) (le-ltb (value-at p y) (p .window)) (λ m. absurd (arc.promised .searched p range .cleared k e y (omega arith, omega arith))))
 
 -- its mark is 3 where it has no argument, and else by its verdict
 pub mark-empty : {n : ℕ} (v : Verdict) → n ≡ 0 → mark-with n v ≡ 3
@@ -93,12 +92,15 @@ unfolding part-report continued
 empty-part p range i e = rw (mark-empty (verdict fine (covering (part p i))) e, promised .parts p range .nothing-listed i e)
 
 module _ (a : Arc) (range : In-range (parabola a)) where
+  verdict-is : {v : Verdict} → arc-verdict fine a ≡ v → verdict fine (covering (parabola a)) ≡ v
+  verdict-is e = sym (arc.promised .arcs a .verdict-is fine range) ∙ e
+
   mark-is : {v : Verdict} → arc-verdict fine a ≡ v → mark-with (a .count) (verdict fine (covering (parabola a))) ≡ mark-of v
-  mark-is e = mark-some _ _ (range .count-low) ∙ ap mark-of (sym (arc.promised .arcs a .verdict-is fine range) ∙ e)
+  mark-is e = mark-some _ _ (range .count-low) ∙ ap mark-of (verdict-is e)
 
   pub clear-part : arc-verdict fine a ≡ Clear → record { mark = 1; hard = 0 } ≡ part-report (parabola a)
   unfolding part-report mark-of
-  clear-part e = rw (mark-is e, none-listed fine a e)
+  clear-part e = rw (mark-is e, none-listed fine range (verdict-is e))
 
   pub possible-part : {n : ℕ} → arc-verdict fine a ≡ Possible → n ≡ length (hard-list (parabola a)) → record { mark = 2; hard = n } ≡ part-report (parabola a)
   unfolding part-report mark-of

@@ -5,13 +5,11 @@ use mathlib.Core.Logic.{_↔_, ⊎-elim}
 use Prim.Native.Nat.{ℕ, zero, suc, _≤_}
 use native.Mathlib.Omega.{arith}
 use lib.Dec.{ltb}
-use borrow.Author.Tests.{le-ltb}
 use lib.ListN.{length, take}
 use Rattle.numbers.specs.Checklist.{unless-refused}
 use Rattle.numbers.specs.Lists.{count-if, overwrite-front}
 use Rattle.numbers.specs.Promise.{Enumerates, Buffer-correct}
 use Rattle.numbers.proofs.Checklists.{gives, unrefused-new, refused-old}
-use Rattle.numbers.proofs.Selections.{filter-empty}
 use Rattle.numbers.proofs.Buffers.{front-correct, front-taken, front-ascends}
 use Rattle.expansion.specs.Reached.Search.{regular}
 use Rattle.geometry.specs.Segment.{Segment, residue}
@@ -21,7 +19,8 @@ use Rattle.segment.specs.Accepted as segment
 use Rattle.segment.specs.Search.{verdict}
 use Rattle.segment.specs.declared.Verdict.{Verdict}
 use Rattle.segment.specs.declared.Verdict.the-variants.{Clear}
-use Rattle.parabola.specs.Parabola.{Parabola, triangle, value-at, slope-at, is-hard, hard-list, centred, covering, continued, part-count, part}
+use Rattle.segment.proofs.Promises as segment-promises
+use Rattle.parabola.specs.Parabola.{Parabola, triangle, value-at, slope-at, hard-list, centred, covering, continued, part-count, part}
 use Rattle.parabola.specs.Promise.{Covering-both-correct}
 use Rattle.parabola.proofs.Promises as parabola
 use Rattle.domain.specs.Domain.{parabola-of, centred-of, hard-arguments, covering-of, part-covering, Accepted}
@@ -33,7 +32,8 @@ use Rattle.domain.specs.declared.DomainAnswer.the-variants as domain-var
 use Rattle.domain.specs.declared.ScanAnswer.the-variants as scan-variants
 use Rattle.domain.proofs.Answers.{searched-in-range, number-accepts, number-as-segment, scan-accepts}
 use Rattle.domain.proofs.Numbers.{hard-by-numbers, nearest, hard-in-segment}
-use Rattle.domain.proofs.Verdicts.{covering-accepted, cleared-list, searched-parts, part-in-range, phases-correct, marks-correct, marks-as-before}
+use Rattle.domain.proofs.Parts.{none-listed}
+use Rattle.domain.proofs.Verdicts.{covering-accepted, searched-parts, part-in-range, phases-correct, marks-correct, marks-as-before}
 
 parabola-correct : (d : Domain) → Parabola-correct d
 unfolding value-at triangle
@@ -85,23 +85,6 @@ module _ (p : Parabola) where
   unfolding answer-with
   reports-with zero v n = (λ e. (refl, cc, cc), λ h. ap₂ domain-variants.Searched (sym (h .1)) (sym (h .2)))
   reports-with (suc k) v n = (λ e. absurd (let z : _≡_ {A = ℕ} 0 1 = cc in omega arith), λ h. absurd (omega (arith, h .0)))
-
--- with a window of 0 nothing is listed
-no-window-no-list : (d : Domain) → Accepted d → d .window ≡ 0 → hard-arguments d ≡ []
-unfolding hard-list is-hard
-no-window-no-list d a e =
-    ap hard-list (parabola.promised .centred-correct (parabola-of d) a .unchanged e)
-    ∙ filter-empty (is-hard (parabola-of d)) (d .count) 0 (λ y l h. le-ltb (value-at (parabola-of d) y) (d .window) (omega arith))
-
-without-window : (d : Domain) → Accepted d → d .window ≡ 0 → Without-window d
-unfolding domain-answer
-without-window d a e =
-    record {
-      none-hard = λ x h. ⊎-elim (λ l. omega (arith, e, l)) (λ l. omega (arith, e, l)) (h .1 .2);
-      answered = λ places.
-          let none : length (hard-arguments d) ≡ 0 = ap length (no-window-no-list d a e) in
-          reports-with (centred-of d) (domain-number d places) _ 0 .1 (number-accepts d places .1 (a, omega (arith, none)), refl, sym none);
-    }
 
 -- an empty list over another
 nothing-over : {xs : List ℕ} (old : List ℕ) → xs ≡ [] → overwrite-front xs old ≡ old
@@ -168,7 +151,7 @@ module _ (d : Domain) (old-marks old : List ℕ) where
           → (n ≡ 0) × (list-after d old ≡ old) × ((x : ℕ) → Hard-in-numbers d x → ⊥)
       cleared n r =
           let a = taken (r .0) .0 in
-          let z : hard-arguments d ≡ [] = cleared-list regular (searched-in-range d a) (sym (r .1)) in (
+          let z : hard-arguments d ≡ [] = none-listed regular (searched-in-range d a) (sym (r .1)) in (
             r .2 ∙ ap length z,
             searched-leaves (r .0) .1 ∙ nothing-over old z,
             λ x h. phases-correct a .first-none (sym (r .1)) x h,
@@ -230,14 +213,14 @@ module _ (s : Segment) where
 
       listed : scan-number s (length old) ≡ 0
           → Enumerates (geometry.Hard s) (count-if (λ x. ltb (residue s x) (s .window)) (s .count) 0) (geometry.hard-list s)
-      listed e = geometry-promises.promised .hard-lists s (taken e .0 .searchable .count-high)
+      listed e = geometry-promises.promised .hard-lists s (taken e .0 .count-high)
 
       hard : (n : ℕ) → (scan-number s (length old) ≡ 0) × (n ≡ length (geometry.hard-list s))
           → Enumerates (Hard-in-segment (s .unit) (s .step) (s .start) (s .count) (s .window)) n
           (take n (unless-refused (scan-number s (length old)) (overwrite-front (geometry.hard-list s) old) old))
       hard n r =
           let l = listed (r .0) in
-          let a = taken (r .0) .0 .searchable in
+          let a = taken (r .0) .0 in
           let t : take n (unless-refused (scan-number s (length old)) (overwrite-front (geometry.hard-list s) old) old) ≡ geometry.hard-list s
           = ap₂ take (r .1) (unrefused-new _ old (r .0)) ∙ front-taken (geometry.hard-list s) old in
           subst (Enumerates (Hard-in-segment (s .unit) (s .step) (s .start) (s .count) (s .window)) n) (sym t)
@@ -248,6 +231,17 @@ module _ (s : Segment) where
             counted = sym (r .1);
           })
 
+-- ---- a window of 0
+
+without-window : (d : Domain) → d .window ≡ 0 → Without-window d
+without-window d e =
+    record {
+      none-hard = λ x h. ⊎-elim (λ l. omega (arith, e, l)) (λ l. omega (arith, e, l)) (h .1 .2);
+      refused = λ places low high slope value some most.
+          refused-as-segment d places 5 (omega arith) (omega arith) .1
+          (rw e (segment-promises.promised .without-window _ _ _ _ .refused low high slope value some most .0));
+    }
+
 -- ---- all of it
 
 pub promised : Promised
@@ -256,9 +250,8 @@ promised =
       parabolas = parabola-correct;
       values = λ d positive. parabola.promised .values (parabola-of d) positive;
       centred = λ d a. parabola.promised .centred-correct (parabola-of d) a;
-      nearest = λ d a x. nearest d x (a .window-within);
+      nearest = λ d a x. nearest d x (a .window-high);
       hard-lists = hard-lists;
-      without-window = without-window;
       accepted = λ d. (λ a. omega arith, λ h. omega arith);
       coverings = coverings-correct;
       eight-parts = λ d. parabola.promised .eight-parts (d .count);
@@ -271,6 +264,7 @@ promised =
       marks-as-before = marks-as-before;
       domains = domain-correct;
       scans = λ M a b N w old. unfold scan-answer scan-list-after in scan-correct (segment.asked M a b N w) old;
+      without-window = without-window;
       domain-numbers = λ v n. unfold domain-refusal domain-count domain-first in (refl, refl, refl, refl, refl, refl);
       scan-numbers = λ n. unfold scan-refusal scan-count in (refl, refl, refl, refl);
     }

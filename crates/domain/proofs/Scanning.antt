@@ -1,16 +1,16 @@
 -- Scans go from a value of a parabola to the next: what they have counted or listed, and what is still to come, make up all hard arguments.
 -- Assumes nothing.
-use mathlib.Core.Path.{_≡_, sym, _∙_, ap}
+use mathlib.Core.Path.{_≡_, sym, _∙_, ap, ap₂}
 use mathlib.Core.List.{List, map}
 use Prim.Native.Nat.{ℕ, suc, _+_, _%_, _≤_, _<_}
 use native.Mathlib.Nat.{sub-zero, add-zero, mod-eq-of-lt, lt-of-not-le}
 use native.Mathlib.Omega.{arith}
 use native.Mathlib.Numerals.{add-one}
-use lib.Dec.{ltb}
+use lib.Dec.{leb, ltb, leb·suc-suc}
 use lib.ListN.{length, set, length-map}
 use lib.Seq.{sets}
 use mir.Val.{boolByte}
-use borrow.Author.Tests.{lt-ltb, le-ltb}
+use borrow.Author.Tests.{le-leb, lt-leb}
 use Rattle.numbers.specs.Integers.{_modulo_}
 use Rattle.numbers.proofs.Lists.{no-entries}
 use Rattle.numbers.proofs.Signed.{read, curve-read}
@@ -24,10 +24,11 @@ use Rattle.domain.specs.declared.scan.Point.{Point}
 
 -- ---- from a value to the next
 
--- the point of a parabola at x
-pub record At (p : Parabola) (second x : ℕ) (t : Point) : Type 0 where
+-- the point of a parabola at x, and the highest value that is hard
+pub record At (p : Parabola) (second highest x : ℕ) (t : Point) : Type 0 where
   pub in-range : In-range p
   pub second-is : second ≡ second-difference p
+  pub highest-is : suc highest ≡ p .window
   pub value-is : t .value ≡ value-at p x
   pub slope-is : t .slope ≡ slope-at p x
 
@@ -35,19 +36,20 @@ values : {p : Parabola} → In-range p → Values-correct p
 values {p} range = promised .values p (omega (arith, range .value-below))
 
 -- the curve is read as it is
-pub at-first : {p : Parabola} {second : ℕ} → In-range p → second ≡ read (p .curve) modulo p .unit
-    → At p second 0 (record { value = p .value; slope = p .slope })
+pub at-first : {p : Parabola} {second highest : ℕ} → In-range p → second ≡ read (p .curve) modulo p .unit → suc highest ≡ p .window
+    → At p second highest 0 (record { value = p .value; slope = p .slope })
 unfolding second-difference
-at-first {p} range e =
+at-first {p} range e h =
     let v = values range in
     record {
       in-range = range;
       second-is = rw (curve-read (p .curve) (range .size-small)) at e;
+      highest-is = h;
       value-is = sym (v .first (range .value-below));
       slope-is = sym (v .slope-first (range .slope-below));
     }
 
-module _ {p : Parabola} {second x : ℕ} {t : Point} (a : At p second x t) where
+module _ {p : Parabola} {second highest x : ℕ} {t : Point} (a : At p second highest x t) where
   pub at-below : Point-below second (p .unit) t
   at-below =
       let v = values (a .in-range) in
@@ -58,21 +60,22 @@ module _ {p : Parabola} {second x : ℕ} {t : Point} (a : At p second x t) where
         modulus-high = a .in-range .unit-within .1;
       }
 
-  pub at-next : At p second (suc x) (next-point second (p .unit) t)
+  pub at-next : At p second highest (suc x) (next-point second (p .unit) t)
   unfolding next-point
   at-next =
       let v = values (a .in-range) in
       record {
         in-range = a .in-range;
         second-is = a .second-is;
+        highest-is = a .highest-is;
         value-is = rw (a .value-is, a .slope-is) (sym (v .differences x));
         slope-is = rw (a .slope-is, a .second-is) (sym (v .slope-differences x));
       }
 
   -- whether it is hard
-  pub at-test : ltb (t .value) (p .window) ≡ is-hard p x
+  at-test : leb (t .value) highest ≡ is-hard p x
   unfolding is-hard
-  at-test = rw (a .value-is)
+  at-test = sym (leb·suc-suc (t .value) highest) ∙ ap₂ ltb (a .value-is) (a .highest-is)
 
 -- a line keeps its slope
 pub line-next : {second modulus : ℕ} {t : Point} {v : ℕ} → Point-below second modulus t → second ≡ 0 → v ≡ (t .value + t .slope) % modulus
@@ -94,17 +97,17 @@ rest-all p = rw sub-zero
 -- ---- counting
 
 -- at x, with so many counted
-pub record Counting (p : Parabola) (second : ℕ) (t : Point) (x number : ℕ) : Type 0 where
-  pub at : At p second x t
+pub record Counting (p : Parabola) (second highest : ℕ) (t : Point) (x number : ℕ) : Type 0 where
+  pub at : At p second highest x t
   pub within : x ≤ p .count
   pub few : number ≤ x
   pub counted : number + length (rest p x) ≡ length (hard-list p)
 
-pub count-first : {p : Parabola} {second : ℕ} {t : Point} → At p second 0 t → Counting p second t 0 0
+pub count-first : {p : Parabola} {second highest : ℕ} {t : Point} → At p second highest 0 t → Counting p second highest t 0 0
 count-first {p} a = record { at = a; within = omega arith; few = omega arith; counted = omega (arith, ap length (rest-all p)) }
 
-module _ {p : Parabola} {second x number : ℕ} {t : Point} (c : Counting p second t x number) where
-  pub count-next : x < p .count → Counting p second (next-point second (p .unit) t) (x + 1) (number + boolByte (ltb (t .value) (p .window)))
+module _ {p : Parabola} {second highest x number : ℕ} {t : Point} (c : Counting p second highest t x number) where
+  pub count-next : x < p .count → Counting p second highest (next-point second (p .unit) t) (x + 1) (number + boolByte (leb (t .value) highest))
   count-next more =
       rw (test-number, add-one x, at-test (c .at))
       (record {
@@ -124,15 +127,15 @@ abbrev pub shifted : (by : ℕ) → List ℕ → List ℕ
 shifted by xs = map (λ (y : ℕ). by + y) xs
 
 -- at the argument of x, with all hard arguments before it written, and the next one to be written at the place `at`
-pub record Listing (p : Parabola) (second begin place : ℕ) (old list : List ℕ) (t : Point) (at x : ℕ) : Type 0 where
+pub record Listing (p : Parabola) (second highest begin place : ℕ) (old list : List ℕ) (t : Point) (at x : ℕ) : Type 0 where
   pub argument : ℕ
   pub begun : x ≡ begin + argument
-  pub point : At p second argument t
+  pub point : At p second highest argument t
   pub within : argument ≤ p .count
   pub writing : Writing (shifted begin (hard-list p)) old place (shifted begin (rest p argument)) list at
 
-module _ {p : Parabola} {second begin place : ℕ} {old : List ℕ} where
-  pub list-first : {t : Point} → At p second 0 t → Listing p second begin place old old t place begin
+module _ {p : Parabola} {second highest begin place : ℕ} {old : List ℕ} where
+  pub list-first : {t : Point} → At p second highest 0 t → Listing p second highest begin place old old t place begin
   list-first a =
       record {
         argument = 0;
@@ -142,7 +145,7 @@ module _ {p : Parabola} {second begin place : ℕ} {old : List ℕ} where
         writing = restate (ap (shifted begin) (sym (rest-all p))) (begin-writing _ old place);
       }
 
-  module _ {list : List ℕ} {t : Point} {at x : ℕ} (l : Listing p second begin place old list t at x) where
+  module _ {list : List ℕ} {t : Point} {at x : ℕ} (l : Listing p second highest begin place old list t at x) where
     -- what is still to be written ends where all hard arguments are
     end-is : at + length (rest p (l .argument)) ≡ place + length (hard-list p)
     end-is =
@@ -158,9 +161,9 @@ module _ {p : Parabola} {second begin place : ℕ} {old : List ℕ} where
       pub list-more : l .argument < p .count
       list-more = lt-of-not-le (λ k. omega (arith, end-is, ap length (from-none (is-hard p) (p .count) (l .argument) k)))
 
-      pub list-hit : t .value < p .window → Listing p second begin place old (set list at x) (next-point second (p .unit) t) (at + 1) (x + 1)
+      pub list-hit : t .value ≤ highest → Listing p second highest begin place old (set list at x) (next-point second (p .unit) t) (at + 1) (x + 1)
       list-hit k =
-          let e = from-hit (is-hard p) (p .count) (l .argument) list-more (sym (at-test (l .point)) ∙ lt-ltb (t .value) (p .window) k) in
+          let e = from-hit (is-hard p) (p .count) (l .argument) list-more (sym (at-test (l .point)) ∙ le-leb (t .value) highest k) in
           record {
             argument = suc (l .argument);
             begun = omega (arith, l .begun);
@@ -169,9 +172,9 @@ module _ {p : Parabola} {second begin place : ℕ} {old : List ℕ} where
             writing = rw (l .begun) (write-one (restate (ap (shifted begin) e) (l .writing)));
           }
 
-      pub list-miss : p .window ≤ t .value → Listing p second begin place old list (next-point second (p .unit) t) at (x + 1)
+      pub list-miss : highest < t .value → Listing p second highest begin place old list (next-point second (p .unit) t) at (x + 1)
       list-miss k =
-          let e = from-miss (is-hard p) (p .count) (l .argument) list-more (sym (at-test (l .point)) ∙ le-ltb (t .value) (p .window) k) in
+          let e = from-miss (is-hard p) (p .count) (l .argument) list-more (sym (at-test (l .point)) ∙ lt-leb (t .value) highest k) in
           record {
             argument = suc (l .argument);
             begun = omega (arith, l .begun);

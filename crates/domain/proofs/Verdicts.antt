@@ -1,6 +1,6 @@
 -- The phases and the marks as promised. Assumes nothing.
 use mathlib.Core.Path.{_≡_, refl, sym, _∙_, ap, ap₂}
-use mathlib.Core.List.{List, []}
+use mathlib.Core.List.{List}
 use mathlib.Core.Logic.{_↔_, by-cases}
 use Prim.Native.Nat.{ℕ, zero, suc, _+_, _-_, _*_, _/_, _%_, _≤_, _<_}
 use native.Mathlib.Decide.{decLt}
@@ -17,27 +17,22 @@ use Rattle.segment.specs.declared.Verdict.{Verdict}
 use Rattle.segment.specs.declared.Verdict.the-variants.{Clear, Possible}
 use Rattle.segment.proofs.Laws.{apart}
 use Rattle.segment.proofs.Promises as segment
-use Rattle.parabola.specs.Parabola.{Parabola, In-range, value-at, Hard, centred, hard-list, covering, continued, part-start, part-count, part}
+use Rattle.parabola.specs.Parabola.{Parabola, In-range, value-at, Hard, centred, covering, continued, part-start, part-count, part}
 use Rattle.parabola.specs.Promise.{Parts-correct}
 use Rattle.parabola.proofs.Promises as parabola
-use Rattle.arc.specs.declared.Arc.{Arc}
 use Rattle.arc.proofs.Promises as arc
 use Rattle.domain.specs.Domain.{centred-of, covering-of, part-covering, Accepted}
 use Rattle.domain.specs.Answer.{marks-of}
 use Rattle.domain.specs.Phases.{mark-of, mark-with, part-mark, part-marks, marks-by}
 use Rattle.domain.specs.Promise.{None-in-part, Phases-correct, Marks-correct}
 use Rattle.domain.specs.declared.Domain.{Domain}
-use Rattle.domain.proofs.Parts.{none-listed, mark-empty, mark-some}
+use Rattle.domain.proofs.Parts.{mark-empty, mark-some}
 use Rattle.domain.proofs.Answers.{searched-in-range}
 use Rattle.domain.proofs.Numbers.{hard-by-numbers}
 
--- the arc of a parabola
-abbrev as-arc : Parabola → Arc
-as-arc p = record { modulus = p .unit; value = p .value; slope = p .slope; curve = p .curve; count = p .count; window = p .window }
-
 -- the searches accept the covering segment of a parabola within the bounds
 pub covering-accepted : {p : Parabola} → In-range p → Accepted-segment (covering p)
-covering-accepted {p} range = arc.promised .arcs (as-arc p) .covering-accepted range
+covering-accepted {p} range = arc.promised .searched p range .covering-accepted
 
 -- what they promise of it
 verdicts : (k : Search) {p : Parabola} → In-range p
@@ -46,10 +41,7 @@ verdicts k {p} range = segment.promised .verdicts k _ _ _ _ _ (covering-accepted
 
 -- a search that clears the covering segment leaves no value below the window
 cleared : (k : Search) {p : Parabola} → In-range p → verdict k (covering p) ≡ Clear → (x : ℕ) → Hard p x → ⊥
-cleared k {p} range e = arc.promised .arcs (as-arc p) .clear k (arc.promised .arcs (as-arc p) .verdict-is k range ∙ e) .1
-
-pub cleared-list : (k : Search) {p : Parabola} → In-range p → verdict k (covering p) ≡ Clear → hard-list p ≡ []
-cleared-list k {p} range e = none-listed k (as-arc p) (arc.promised .arcs (as-arc p) .verdict-is k range ∙ e)
+cleared k {p} range = arc.promised .searched p range .cleared k
 
 module _ {d : Domain} (a : Accepted d) where
   -- the parts of the parabola that the phases search

@@ -14,7 +14,7 @@ use Rattle.segment.specs.declared.Verdict.{Verdict}
 use Rattle.segment.specs.declared.Verdict.the-variants.{Possible}
 use Rattle.parabola.specs.Parabola.{Parabola, hard-list, covering}
 use Rattle.arc.specs.Arc as arc
-use Rattle.domain.specs.Domain.{arc-of, centred-of, hard-arguments}
+use Rattle.domain.specs.Domain.{parabola-of, centred-of, hard-arguments}
 use Rattle.domain.specs.Phases.{marks}
 use Rattle.domain.specs.declared.Domain.{Domain}
 use Rattle.domain.specs.declared.DomainAnswer.{DomainAnswer}
@@ -28,9 +28,9 @@ room xs places = check 7 (decLe (length xs) places) ∷ []
 
 -- ---- domains
 
--- what is asked of a domain with a list of so many places: what is asked of its arc, and then room
+-- what is asked of a domain with a list of so many places: what is asked of its parabola, and then room
 abbrev pub domain-checks : Domain → (places : ℕ) → List Check
-domain-checks d places = arc.checks (arc-of d) ++ room (hard-arguments d) places
+domain-checks d places = arc.checks (parabola-of d) ++ room (hard-arguments d) places
 
 -- the number of the first condition that does not hold, or 0
 unfoldable pub domain-number : Domain → (places : ℕ) → ℕ

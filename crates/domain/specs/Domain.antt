@@ -1,21 +1,15 @@
--- A domain (document 01): which arc and which parabola it is, which of its arguments are hard (document 02, 2.1), which segments cover it and its parts, and
--- which domains are accepted. Assumes nothing: these are definitions.
+-- A domain (document 01): which parabola it is, which of its arguments are hard (document 02, 2.1), which segments cover it and its parts, and which domains
+-- are accepted. Assumes nothing: these are definitions.
 use mathlib.Core.List.{List}
 use Prim.Native.Nat.{ℕ}
 use Rattle.geometry.specs.Segment.{Segment}
 use Rattle.parabola.specs.Parabola.{Parabola, centred, hard-list, covering, part, In-range}
-use Rattle.arc.specs.Arc.{parabola}
-use Rattle.arc.specs.declared.Arc.{Arc}
+use Rattle.arc.specs.Arc.{asked}
 use Rattle.domain.specs.declared.Domain.{Domain}
 
--- the arc of a domain
-abbrev pub arc-of : Domain → Arc
-arc-of d =
-    record { modulus = d .modulus; value = d .value; slope = d .slope; curve = d .curve; count = d .count; window = d .window }
-
--- and its parabola
+-- the parabola of a domain
 abbrev pub parabola-of : Domain → Parabola
-parabola-of d = parabola (arc-of d)
+parabola-of d = asked (d .modulus) (d .value) (d .slope) (d .curve) (d .count) (d .window)
 
 -- the parabola that the phases search: its hard arguments are those of the domain, whose values lie less than the window from a multiple of the modulus
 abbrev pub centred-of : Domain → Parabola

@@ -77,11 +77,14 @@ pub record Coverings-correct (d : Domain) : Type 0 where
   pub part-accepted : (i : ℕ) → i < 8 → 1 ≤ part-count (d .count) i → segment.Accepted (part-covering d i)
   pub part-covers : (i : ℕ) → i < 8 → 1 ≤ part-count (d .count) i → Covering-both-correct (part (parabola-of d) i) (part-covering d i)
 
--- for a window of 0 nothing changed: the covering segments are those of document 01 (`Covers-both-by.unchanged`), nothing is hard, so that every list is long
--- enough, and phase 1's verdict is answered
+-- ---- a window of 0
+
+-- a domain with a window of 0 has no hard argument, and so none in any part: a domain or a part that was cleared before document 02's 2.3 has none, and the empty
+-- list is right. Where nothing that is asked before the window refuses it, it is now refused by 5, whatever its curve and the places
 pub record Without-window (d : Domain) : Type 0 where
   pub none-hard : (x : ℕ) → Hard-in-numbers d x → ⊥
-  pub answered : (places : ℕ) → domain-answer d places ≡ domain-variants.Searched (verdict regular (covering-of d)) 0
+  pub refused : (places : ℕ) → 2 ≤ d .modulus → d .modulus ≤ 2 ^ 62 → d .slope < d .modulus → d .value < d .modulus → 1 ≤ d .count → d .count ≤ 1048576
+      → domain-answer d places ≡ domain-variants.Refused 5
 
 -- ---- the phases
 
@@ -131,7 +134,7 @@ Asked d places =
     ∷ condition 2 (d .slope < d .modulus)
     ∷ condition 3 (d .value < d .modulus)
     ∷ condition 4 ((1 ≤ d .count) × (d .count ≤ 1048576))
-    ∷ condition 5 (d .window ≤ d .modulus)
+    ∷ condition 5 ((1 ≤ d .window) × (d .window ≤ d .modulus))
     ∷ condition 6 (natAbs (d .curve) ≤ 1048576)
     ∷ condition 7 (length (hard-arguments d) ≤ places)
     ∷ []
@@ -147,7 +150,7 @@ Scan-asked s places =
     ∷ condition 2 (s .step < s .unit)
     ∷ condition 3 (s .start < s .unit)
     ∷ condition 4 ((1 ≤ s .count) × (s .count ≤ 1048576))
-    ∷ condition 5 (s .window ≤ s .unit)
+    ∷ condition 5 ((1 ≤ s .window) × (s .window ≤ s .unit))
     ∷ condition 7 (length (geometry.hard-list s) ≤ places)
     ∷ []
 
@@ -191,14 +194,13 @@ pub record Promised : Type 0 where
   pub accepted : (d : Domain)
       → Accepted d
       ↔ ((2 ≤ d .modulus) × (d .modulus ≤ 2 ^ 62) × (d .slope < d .modulus) × (d .value < d .modulus) × (1 ≤ d .count) × (d .count ≤ 1048576)
-      × (d .window ≤ d .modulus) × (natAbs (d .curve) ≤ 1048576))
+      × (1 ≤ d .window) × (d .window ≤ d .modulus) × (natAbs (d .curve) ≤ 1048576))
   pub values : (d : Domain) → 0 < d .modulus → Values-correct (parabola-of d)
   -- the parabola that the phases search has the values raised by w - 1 and a window for both sides
   pub centred : (d : Domain) → Accepted d → Centred-correct (parabola-of d)
   -- hard is what is less than w from the nearest multiple of M
   pub nearest : (d : Domain) → Accepted d → (x : ℕ) → Hard-in-numbers d x ↔ Near-a-multiple d x
   pub hard-lists : (d : Domain) → Accepted d → Enumerates (Hard-in-numbers d) (length (hard-arguments d)) (hard-arguments d)
-  pub without-window : (d : Domain) → Accepted d → d .window ≡ 0 → Without-window d
   pub coverings : (d : Domain) → Accepted d → Coverings-correct d
   -- where parts begin and how long they are; the parts of a domain; and those of the parabola that the phases search, whose lists make up the list of the domain
   pub eight-parts : (d : Domain) → Eight-parts-correct (d .count)
@@ -221,6 +223,7 @@ pub record Promised : Type 0 where
       → Domain-correct d old-marks old (domain-answer d (length old)) (marks-after d (length old) old-marks) (list-after d old)
   pub scans : (M a b N w : ℕ) (old : List ℕ)
       → segment-promise.for-segment (λ s. Scan-correct s old (scan-answer M a b N w (length old)) (scan-list-after M a b N w old)) M a b N w
+  pub without-window : (d : Domain) → d .window ≡ 0 → Without-window d
   -- 01's numbers and values for the cases of an answer: the refusal or 0, how many it listed or 0, phase 1's verdict
   pub domain-numbers : (v : Verdict) (n : ℕ)
       → (domain-refusal (domain-variants.Refused n) ≡ n) × (domain-refusal (domain-variants.Searched v n) ≡ 0)

@@ -7,8 +7,8 @@ ghost use Rattle.expansion.specs.Reached.Search.{regular};
 ghost use Rattle.segment.specs.Search.{verdict};
 ghost use Rattle.segment.specs.declared.Verdict.the-variants.{Possible};
 ghost use Rattle.parabola.specs.Parabola.{In-range, covering};
-ghost use Rattle.arc.specs.Arc.{parabola, refusal};
-ghost use Rattle.domain.specs.Domain.{arc-of, centred-of, Accepted};
+ghost use Rattle.arc.specs.Arc.{parabola};
+ghost use Rattle.domain.specs.Domain.{centred-of, Accepted};
 ghost use Rattle.domain.specs.Answer.{too-few, answer-with, marks-with, list-with, domain-answer, marks-after, list-after, scan-answer, scan-list-after};
 
 mod phases;
@@ -17,7 +17,6 @@ mod scan;
 use arc::Arc;
 use numbers::min;
 use numbers::reduce;
-use numbers::saturating_sub;
 use phases::examine_parts;
 use phases::list_parts;
 use scan::add;
@@ -73,7 +72,7 @@ pub fn scan_segment(
         slope: reduce(modulus - step, modulus),
         curve: 0,
         count: count,
-        window: window,
+        highest: window - 1,
     };
     let listed = count_hard(line);
     if list.len() < listed as usize {
@@ -88,14 +87,21 @@ pub fn scan_segment(
 // where parts are not looked at, 1 for a part that is clear, 2 for one that is possible and was scanned, 3 for one that has no argument. The hard
 // arguments are listed as by a scan.
 // Refused: 1 where the modulus is outside 2 to 2^62, else 2 where the slope is not below it, else 3 where the value is not, else 4 where the
-// count is outside 1 to 1,048,576, else 5 where the window is above the modulus, else 6 where the curve is outside -1,048,576 to 1,048,576, else 7
+// count is outside 1 to 1,048,576, else 5 where the window is outside 1 to the modulus, else 6 where the curve is outside -1,048,576 to 1,048,576, else 7
 // where the list has fewer places than there are hard arguments. On a refusal marks and list are as they were.
 pub fn search_domain(domain: Domain, marks: &mut [u8; 8], list: &mut [u32]) -> DomainAnswer
     ensures { λ r. ⌜ r ≡ domain-answer domain (length (now (list .entry))) ⌝ }
     ensures { λ r. ⌜ now (marks .exit) ≡ marks-after domain (length (now (list .entry))) (now (marks .entry)) ⌝ }
     ensures { λ r. ⌜ now (list .exit) ≡ list-after domain (now (list .entry)) ⌝ }
 {
-    let number = refuse(domain);
+    let number = arc::refuse(
+        domain.modulus,
+        domain.value,
+        domain.slope,
+        domain.curve,
+        domain.count,
+        domain.window,
+    );
     if number != 0 {
         return DomainAnswer::Refused(number);
     }
@@ -112,34 +118,20 @@ pub fn search_domain(domain: Domain, marks: &mut [u8; 8], list: &mut [u32]) -> D
     }
 }
 
-// The number that refuses the domain's arc, or 0.
-fn refuse(domain: Domain) -> u32
-    ensures { λ r. ⌜ r ≡ refusal (arc-of domain) ⌝ }
-{
-    arc::refuse(Arc {
-        modulus: domain.modulus,
-        value: domain.value,
-        slope: domain.slope,
-        curve: domain.curve,
-        count: domain.count,
-        window: domain.window,
-    })
-}
-
-// What the phases search. Raised by w - 1, the values that lie less than w from a multiple of the modulus are those below 2w - 1: one test for both
-// sides. A window of 0 changes nothing.
+// What the phases search. Raised by w - 1, the values that lie less than w from a multiple of the modulus are those up to 2(w - 1), or all of them: one
+// test for both sides.
 fn centred(domain: Domain) -> Arc
     requires { ⌜ Accepted domain ⌝ }
     ensures { λ r. ⌜ parabola r ≡ centred-of domain ⌝ }
 {
-    let raise = saturating_sub(domain.window, 1);
+    let raise = domain.window - 1;
     Arc {
         modulus: domain.modulus,
         value: add(domain.value, raise, domain.modulus),
         slope: domain.slope,
         curve: domain.curve,
         count: domain.count,
-        window: min(domain.modulus, domain.window + raise),
+        highest: min(domain.modulus - 1, raise + raise),
     }
 }
 

@@ -58,7 +58,7 @@ fn part(arc: Arc, i: u64) -> Arc
             slope: slope,
             curve: arc.curve,
             count: part_count(arc.count, i),
-            window: arc.window,
+            highest: arc.highest,
         },
     }
 }

@@ -70,7 +70,7 @@ pub(crate) fn count_hard(arc: Arc) -> u32
     let mut x: u64 = 0;
     let mut number: u32 = 0;
     while x < arc.count {
-        number = number + (point.value < arc.window) as u32;
+        number = number + (point.value <= arc.highest) as u32;
         point = next(point, second, arc.modulus);
         x = x + 1;
     }
@@ -95,7 +95,7 @@ pub(crate) fn list_hard(arc: Arc, begin: u32, number: u32, list: &mut [u32], pla
     let mut at = place;
     let mut x = begin;
     while at < end {
-        if point.value < arc.window {
+        if point.value <= arc.highest {
             list[at] = x;
             at = at + 1;
         }

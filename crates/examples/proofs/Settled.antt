@@ -28,7 +28,7 @@ use Rattle.text.specs.Text.{decimal-within, decimal}
 use Rattle.text.specs.Reading.{starts, takes-digit, digits-from, number-from, field-at, unsigned, opposite, signed-from, signed-field-at}
 use Rattle.job.specs.Reading.{rest-from, reading}
 use Rattle.job.specs.Output.{verdict-name, argument-lines, refused, report, printed-for, printed, output-with, output-of}
-use Rattle.examples.specs.Settled.{Regular-shows, Fine-shows, Example-1, Example-6, Example-7, Example-8, Example-9, Example-10, Example-11, Both-sides, Any-length, Settled}
+use Rattle.examples.specs.Settled.{Regular-shows, Fine-shows, Example-1, Example-6, Example-7, Example-8, Example-9, Example-10, Example-11, Both-sides, Any-length, Windows-from-1, Settled}
 
 example-1 : Example-1
 unfolding decLe decLt Dec·and ranged first-failing rows-from expansion zero-padded refusal answer-with answer regular-from regular parts-from fine-from fine
@@ -45,41 +45,41 @@ example-1 =
 -- ---- for every window
 
 -- what is shown with the verdict by the distance is answered for every window that is accepted
-module _ (M a b N : ℕ) (accepted : (w : ℕ) → w ≤ M → segments.Accepted (segments.asked M a b N w)) {n i d x : ℕ} where
+module _ (M a b N : ℕ) (accepted : (w : ℕ) → 1 ≤ w → w ≤ M → segments.Accepted (segments.asked M a b N w)) {n i d x : ℕ} where
   regular-for-all : ((w : ℕ) → regular-shown (segments.asked M a b N w)
       ≡ record { count = n; quotients = i; distance = d; argument = x; verdict = verdict-at d w }) → Regular-shows M a b N n i d x
   regular-for-all shown =
       record {
-        clear = λ w m h. regular-shows M a b N w (accepted w m) ∙ ap regular-variants.Shown (shown w) ∙ rw (verdict-iff d w .0 .1 h);
-        possible = λ w m h. regular-shows M a b N w (accepted w m) ∙ ap regular-variants.Shown (shown w) ∙ rw (verdict-iff d w .1 .1 h);
+        clear = λ w l m h. regular-shows M a b N w (accepted w l m) ∙ ap regular-variants.Shown (shown w) ∙ rw (verdict-iff d w .0 .1 h);
+        possible = λ w l m h. regular-shows M a b N w (accepted w l m) ∙ ap regular-variants.Shown (shown w) ∙ rw (verdict-iff d w .1 .1 h);
       }
 
   fine-for-all : {t : ℕ} → ((w : ℕ) → fine-shown (segments.asked M a b N w)
       ≡ record { count = n; index = i; part = t; distance = d; argument = x; verdict = verdict-at d w }) → Fine-shows M a b N n i t d x
   fine-for-all shown =
       record {
-        clear = λ w m h. fine-shows M a b N w (accepted w m) ∙ ap fine-variants.Shown (shown w) ∙ rw (verdict-iff d w .0 .1 h);
-        possible = λ w m h. fine-shows M a b N w (accepted w m) ∙ ap fine-variants.Shown (shown w) ∙ rw (verdict-iff d w .1 .1 h);
+        clear = λ w l m h. fine-shows M a b N w (accepted w l m) ∙ ap fine-variants.Shown (shown w) ∙ rw (verdict-iff d w .0 .1 h);
+        possible = λ w l m h. fine-shows M a b N w (accepted w l m) ∙ ap fine-variants.Shown (shown w) ∙ rw (verdict-iff d w .1 .1 h);
       }
 
 example-6 : Example-6
 unfolding rows-from expansion parts-from fine-from fine configurations-of reached-in reached residue least-from argument distance fine-shown
-example-6 = fine-for-all 45 15 44 10 (λ w m. omega arith) (λ w. refl)
+example-6 = fine-for-all 45 15 44 10 (λ w l m. omega arith) (λ w. refl)
 
 example-7 : Example-7
 unfolding rows-from expansion regular-from regular parts-from fine-from fine configurations-of reached-in reached residue least-from argument distance regular-shown fine-shown
 example-7 =
     record {
-      by-regular = regular-for-all 45 44 0 3 (λ w m. omega arith) (λ w. refl);
-      by-fine = fine-for-all 45 44 0 3 (λ w m. omega arith) (λ w. refl);
+      by-regular = regular-for-all 45 44 0 3 (λ w l m. omega arith) (λ w. refl);
+      by-fine = fine-for-all 45 44 0 3 (λ w l m. omega arith) (λ w. refl);
     }
 
 example-8 : Example-8
 unfolding rows-from expansion regular-from regular parts-from fine-from fine configurations-of reached-in reached residue least-from argument distance regular-shown fine-shown
 example-8 =
     record {
-      by-regular = regular-for-all 45 14 44 1 (λ w m. omega arith) (λ w. refl);
-      by-fine = fine-for-all 45 14 44 1 (λ w m. omega arith) (λ w. refl);
+      by-regular = regular-for-all 45 14 44 1 (λ w l m. omega arith) (λ w. refl);
+      by-fine = fine-for-all 45 14 44 1 (λ w l m. omega arith) (λ w. refl);
     }
 
 -- ---- scans and domains
@@ -90,19 +90,18 @@ example-9 =
     record {
       hard-6 = refl;
       hard-3 = refl;
-      hard-0 = refl;
       answered-6 = refl;
       left-6 = λ x y z. refl;
       answered-3 = refl;
       left-3 = λ x. refl;
-      answered-0 = refl;
-      left-0 = λ x. refl;
+      answered-0 = λ places. refl;
+      left-0 = λ old. refl;
       too-few = refl;
       left-too-few = λ x. refl;
     }
 
-domains : Example-10 × Example-11 × Both-sides × Any-length
-unfolding decLe decLt Dec·and ranged first-failing unless-refused rows-from expansion regular-from regular parts-from fine-from fine configurations-of reached-in reached residue least-from argument distance verdict-at filter-range tabulate overwrite-front _modulo_ triangle value-at slope-at parabola.is-hard parabola.hard-list parabola.centred spread covering-step start-over covering-start covering-window continued part-count part-start mark-of mark-with marks-by domain-number domain-answer-with domain-answer marks-after list-after decimal-within decimal starts takes-digit digits-from number-from field-at unsigned opposite signed-from signed-field-at rest-from reading verdict-name argument-lines refused report printed-for printed output-with output-of
+domains : Example-10 × Example-11 × Both-sides × Any-length × Windows-from-1
+unfolding decLe decLt Dec·and ranged first-failing unless-refused rows-from expansion regular-from regular parts-from fine-from fine configurations-of reached-in reached residue least-from argument distance verdict-at segments.refusal regular-shown fine-shown regular-answer-with fine-answer-with regular-answer fine-answer filter-range tabulate overwrite-front _modulo_ triangle value-at slope-at geometry.is-hard geometry.hard-list parabola.is-hard parabola.hard-list parabola.centred spread covering-step start-over covering-start covering-window continued part-count part-start mark-of mark-with marks-by scan-number scan-answer-with scan-answer scan-list-after domain-number domain-answer-with domain-answer marks-after list-after decimal-within decimal starts takes-digit digits-from number-from field-at unsigned opposite signed-from signed-field-at rest-from reading verdict-name argument-lines refused report printed-for printed output-with output-of
 domains = (
   record { prints = refl; read = refl; answered = refl; marks = λ old. refl; left = λ x y z. refl; covered = refl; too-few = refl; left-too-few = λ x. refl },
   record {
@@ -133,9 +132,6 @@ domains = (
     falling-marks = λ old. refl;
     falling-left = λ x y. refl;
     falling-covered = refl;
-    without-window = refl;
-    without-window-marks = λ old. refl;
-    without-window-covered = refl;
   },
   record {
     starts-of-12 = refl;
@@ -160,6 +156,34 @@ domains = (
     refused-0 = refl;
     refused-more = refl;
   },
+  record {
+    regular-0 = refl;
+    fine-0 = refl;
+    regular-M = refl;
+    fine-M = refl;
+    regular-above = refl;
+    fine-above = refl;
+    regular-none = refl;
+    fine-none = refl;
+    scan-M = refl;
+    scan-M-left = λ x y z. refl;
+    scan-above = λ places. refl;
+    scan-none = λ places. refl;
+    prints-0 = refl;
+    prints-1 = refl;
+    prints-above = refl;
+    prints-M = refl;
+    domain-0 = λ places. refl;
+    marks-0 = λ places old. refl;
+    left-0 = λ old. refl;
+    domain-1 = refl;
+    domain-M = refl;
+    domain-M-left = λ x y z. refl;
+    none-and-0 = λ places. refl;
+    curve-and-0 = λ places. refl;
+    curve-and-above = refl;
+    curve-alone = λ places. refl;
+  },
 )
 
 pub settled : Settled
@@ -179,4 +203,5 @@ settled =
       p11 = domains .1;
       both-sides = domains .2;
       any-length = domains .3;
+      windows-from-1 = domains .4;
     }

@@ -74,20 +74,20 @@ pub record Example-5 : Type 0 where
   pub fine-possible : fine-answer 45 0 9 1048576 10
       ≡ fine-variants.Shown (record { count = 1; index = 0; part = 0; distance = 9; argument = 0; verdict = Possible })
 
--- where 01 tells no window: what a search answers for every one up to M, clear where the distance is at least the window, and possible where it is less
+-- where 01 tells no window: what a search answers for every one from 1 to M, clear where the distance is at least the window, and possible where it is less
 pub record Regular-shows (M a b N count quotients distance argument : ℕ) : Type 0 where
-  pub clear : (w : ℕ) → w ≤ M → w ≤ distance
+  pub clear : (w : ℕ) → 1 ≤ w → w ≤ M → w ≤ distance
       → regular-answer M a b N w
       ≡ regular-variants.Shown (record { count = count; quotients = quotients; distance = distance; argument = argument; verdict = Clear })
-  pub possible : (w : ℕ) → w ≤ M → distance < w
+  pub possible : (w : ℕ) → 1 ≤ w → w ≤ M → distance < w
       → regular-answer M a b N w
       ≡ regular-variants.Shown (record { count = count; quotients = quotients; distance = distance; argument = argument; verdict = Possible })
 
 pub record Fine-shows (M a b N count index part distance argument : ℕ) : Type 0 where
-  pub clear : (w : ℕ) → w ≤ M → w ≤ distance
+  pub clear : (w : ℕ) → 1 ≤ w → w ≤ M → w ≤ distance
       → fine-answer M a b N w
       ≡ fine-variants.Shown (record { count = count; index = index; part = part; distance = distance; argument = argument; verdict = Clear })
-  pub possible : (w : ℕ) → w ≤ M → distance < w
+  pub possible : (w : ℕ) → 1 ≤ w → w ≤ M → distance < w
       → fine-answer M a b N w
       ≡ fine-variants.Shown (record { count = count; index = index; part = part; distance = distance; argument = argument; verdict = Possible })
 
@@ -95,7 +95,8 @@ pub record Fine-shows (M a b N count index part distance argument : ℕ) : Type 
 abbrev pub Example-6 : Type 0
 Example-6 = Fine-shows 45 15 44 10 3 0 2 14 2
 
--- M 45, a 44, b 0, N 3: regular n 45, index 2; fine n 3, label (1, 1). 01 does not tell that both show distance 0 at 0
+-- M 45, a 44, b 0, N 3: regular n 45, index 2; fine n 3, label (1, 1). 01 does not tell that both show distance 0 at 0, so that no
+-- accepted window is clear
 pub record Example-7 : Type 0 where
   pub by-regular : Regular-shows 45 44 0 3 45 2 0 0
   pub by-fine : Fine-shows 45 44 0 3 3 1 1 0 0
@@ -105,23 +106,26 @@ pub record Example-8 : Type 0 where
   pub by-regular : Regular-shows 45 14 44 1 1 0 44 0
   pub by-fine : Fine-shows 45 14 44 1 1 0 0 44 0
 
--- the scan of M 45, a 14, b 44, N 16: w 6 lists 3, 6; w 3 lists 3; w 0 lists none. A place more stays as it was, and w 6 with one place is 7
+-- the scan of M 45, a 14, b 44, N 16: w 6 lists 3, 6; w 3 lists 3; w 0 is 5 (02, 2.3). A place more stays as it was, and w 6 with one place is 7
 pub record Example-9 : Type 0 where
   pub hard-6 : hard-list (segment 45 14 44 16 6) ≡ 3 ∷ 6 ∷ []
   pub hard-3 : hard-list (segment 45 14 44 16 3) ≡ 3 ∷ []
-  pub hard-0 : hard-list (segment 45 14 44 16 0) ≡ []
   pub answered-6 : scan-answer 45 14 44 16 6 2 ≡ scan-variants.Listed 2
   pub left-6 : (x y z : ℕ) → scan-list-after 45 14 44 16 6 (x ∷ y ∷ z ∷ []) ≡ 3 ∷ 6 ∷ z ∷ []
   pub answered-3 : scan-answer 45 14 44 16 3 1 ≡ scan-variants.Listed 1
   pub left-3 : (x : ℕ) → scan-list-after 45 14 44 16 3 (x ∷ []) ≡ 3 ∷ []
-  pub answered-0 : scan-answer 45 14 44 16 0 0 ≡ scan-variants.Listed 0
-  pub left-0 : (x : ℕ) → scan-list-after 45 14 44 16 0 (x ∷ []) ≡ x ∷ []
+  pub answered-0 : (places : ℕ) → scan-answer 45 14 44 16 0 places ≡ scan-variants.Refused 5
+  pub left-0 : (old : List ℕ) → scan-list-after 45 14 44 16 0 old ≡ old
   pub too-few : scan-answer 45 14 44 16 6 1 ≡ scan-variants.Refused 7
   pub left-too-few : (x : ℕ) → scan-list-after 45 14 44 16 6 (x ∷ []) ≡ x ∷ []
 
--- job J's domain, M 45, c0 44, c1 31, s 0, w 3, with any count
+-- job J's domain, M 45, c0 44, c1 31, with any count, curve and window
+abbrev pub J-with : (count : ℕ) (s : ℤ) (window : ℕ) → Domain
+J-with n s w = record { modulus = 45; value = 44; slope = 31; curve = s; count = n; window = w }
+
+-- with job J's own curve and window, s 0 and w 3
 abbrev pub J-of : (count : ℕ) → Domain
-J-of n = record { modulus = 45; value = 44; slope = 31; curve = pos 0; count = n; window = 3 }
+J-of n = J-with n (pos 0) 3
 
 -- job J itself has 16 arguments
 abbrev pub J : Domain
@@ -174,10 +178,6 @@ rising-arc = record { modulus = 45; value = 17; slope = 17; curve = pos 1; count
 abbrev pub falling-arc : Domain
 falling-arc = record { modulus = 45; value = 11; slope = 8; curve = negsuc 0; count = 8; window = 2 }
 
--- with a window of 0
-abbrev pub no-window : Domain
-no-window = record { modulus = 45; value = 20; slope = 0; curve = pos 1; count = 8; window = 0 }
-
 pub record Both-sides : Type 0 where
   -- a window of 2 lists 2 and 6, whose values are 9 and 1; a window of 6 lists all
   pub line-2 : domain-answer (line-of-10 2) 2 ≡ domain-variants.Searched Possible 2
@@ -201,10 +201,6 @@ pub record Both-sides : Type 0 where
   pub falling-marks : (old : List ℕ) → marks-after falling-arc 2 old ≡ 1 ∷ 1 ∷ 1 ∷ 1 ∷ 1 ∷ 1 ∷ 2 ∷ 2 ∷ []
   pub falling-left : (x y : ℕ) → list-after falling-arc (x ∷ y ∷ []) ≡ 6 ∷ 7 ∷ []
   pub falling-covered : covering-of falling-arc ≡ segment 45 37 12 8 31
-  -- by 01: the start is 20 + 28 modulo 45, and the window 28
-  pub without-window : domain-answer no-window 0 ≡ domain-variants.Searched Possible 0
-  pub without-window-marks : (old : List ℕ) → marks-after no-window 0 old ≡ 1 ∷ 1 ∷ 1 ∷ 1 ∷ 1 ∷ 1 ∷ 1 ∷ 1 ∷ []
-  pub without-window-covered : covering-of no-window ≡ segment 45 0 3 8 28
 
 -- ---- domains of any length (2.2)
 
@@ -249,6 +245,45 @@ pub record Any-length : Type 0 where
   pub refused-0 : domain-answer (J-of 0) 4096 ≡ domain-variants.Refused 4
   pub refused-more : domain-answer (J-of 1048577) 4096 ≡ domain-variants.Refused 4
 
+-- ---- windows from 1 (2.3)
+
+pub record Windows-from-1 : Type 0 where
+  -- both searches: 0 is 5, M is accepted, M + 1 is 5; 4 comes before 5
+  pub regular-0 : regular-answer 45 14 44 16 0 ≡ regular-variants.Refused 5
+  pub fine-0 : fine-answer 45 14 44 16 0 ≡ fine-variants.Refused 5
+  pub regular-M : regular-answer 45 14 44 16 45
+      ≡ regular-variants.Shown (record { count = 16; quotients = 2; distance = 2; argument = 3; verdict = Possible })
+  pub fine-M : fine-answer 45 14 44 16 45
+      ≡ fine-variants.Shown (record { count = 16; index = 2; part = 0; distance = 2; argument = 3; verdict = Possible })
+  pub regular-above : regular-answer 45 14 44 16 46 ≡ regular-variants.Refused 5
+  pub fine-above : fine-answer 45 14 44 16 46 ≡ fine-variants.Refused 5
+  pub regular-none : regular-answer 45 14 44 0 0 ≡ regular-variants.Refused 4
+  pub fine-none : fine-answer 45 14 44 0 0 ≡ fine-variants.Refused 4
+  -- scans: M lists all, M + 1 is 5; 4 comes before 5
+  pub scan-M : scan-answer 45 14 44 3 45 3 ≡ scan-variants.Listed 3
+  pub scan-M-left : (x y z : ℕ) → scan-list-after 45 14 44 3 45 (x ∷ y ∷ z ∷ []) ≡ 0 ∷ 1 ∷ 2 ∷ []
+  pub scan-above : (places : ℕ) → scan-answer 45 14 44 16 46 places ≡ scan-variants.Refused 5
+  pub scan-none : (places : ℕ) → scan-answer 45 14 44 0 0 places ≡ scan-variants.Refused 4
+  -- job J with windows of 0, 1 and M + 1, and with 3 arguments and a window of M, bytes in and bytes out
+  pub prints-0 : output-of (bytes "modulus=45\nvalue=44\nslope=31\ncurve=0\ncount=16\nwindow=0\n") ≡ bytes "refused=5\n"
+  pub prints-1 : output-of (bytes "modulus=45\nvalue=44\nslope=31\ncurve=0\ncount=16\nwindow=1\n")
+      ≡ bytes "first=cleared\nparts=00000000\nlisted=0\n"
+  pub prints-above : output-of (bytes "modulus=45\nvalue=44\nslope=31\ncurve=0\ncount=16\nwindow=46\n") ≡ bytes "refused=5\n"
+  pub prints-M : output-of (bytes "modulus=45\nvalue=44\nslope=31\ncurve=0\ncount=3\nwindow=45\n")
+      ≡ bytes "first=possible\nparts=22233333\nlisted=3\nargument=0\nargument=1\nargument=2\n"
+  -- in the call's answers and buffers
+  pub domain-0 : (places : ℕ) → domain-answer (J-with 16 (pos 0) 0) places ≡ domain-variants.Refused 5
+  pub marks-0 : (places : ℕ) (old : List ℕ) → marks-after (J-with 16 (pos 0) 0) places old ≡ old
+  pub left-0 : (old : List ℕ) → list-after (J-with 16 (pos 0) 0) old ≡ old
+  pub domain-1 : domain-answer (J-with 16 (pos 0) 1) 0 ≡ domain-variants.Searched Clear 0
+  pub domain-M : domain-answer (J-with 3 (pos 0) 45) 3 ≡ domain-variants.Searched Possible 3
+  pub domain-M-left : (x y z : ℕ) → list-after (J-with 3 (pos 0) 45) (x ∷ y ∷ z ∷ []) ≡ 0 ∷ 1 ∷ 2 ∷ []
+  -- 4 comes before 5, and 5 before 6, and before 7 where there is no place
+  pub none-and-0 : (places : ℕ) → domain-answer (J-with 0 (pos 0) 0) places ≡ domain-variants.Refused 4
+  pub curve-and-0 : (places : ℕ) → domain-answer (J-with 16 (pos 1048577) 0) places ≡ domain-variants.Refused 5
+  pub curve-and-above : domain-answer (J-with 16 (pos 1048577) 46) 0 ≡ domain-variants.Refused 5
+  pub curve-alone : (places : ℕ) → domain-answer (J-with 16 (pos 1048577) 1) places ≡ domain-variants.Refused 6
+
 -- all of them
 pub record Settled : Type 0 where
   pub p1 : Example-1
@@ -264,3 +299,4 @@ pub record Settled : Type 0 where
   pub p11 : Example-11
   pub both-sides : Both-sides
   pub any-length : Any-length
+  pub windows-from-1 : Windows-from-1

@@ -6,6 +6,7 @@ use native.Mathlib.Omega.{arith}
 use lib.ListN.{getD}
 use Rattle.numbers.proofs.Buffers.{front-correct}
 use Rattle.domain.specs.declared.Domain.{Domain}
+use Rattle.domain.proofs.Promises as domain
 use Rattle.text.specs.Text.{bytes, decimal-within, decimal}
 use Rattle.text.proofs.Laws.{one-digit}
 use Rattle.job.specs.Reading.{rendering, In-range, reading}
@@ -55,6 +56,10 @@ malformed-of (Read d) e = absurd (no-job-eight d e)
 
 -- ---- the output of a rendering
 
+five-printed : refused 5 ≡ bytes "refused=5\n"
+unfolding decimal-within decimal refused
+five-printed = refl
+
 output-is : (d : Domain) → In-range d → output-of (rendering d) ≡ printed d
 unfolding output-of output-with
 output-is d h = ap output-with (reading-correct .read (rendering d) d .1 (h, refl))
@@ -67,6 +72,8 @@ output-correct =
       asked = λ d. refl;
       refuses = search-refuses;
       job-refused = λ d n h e. output-is d h ∙ printed-refused d e;
+      without-window = λ d e low high slope value some most curve.
+          output-is d (omega arith) ∙ printed-refused d (domain.promised .without-window d e .refused 4096 low high slope value some most) ∙ five-printed;
       job-reported = λ d first listed h e. output-is d h ∙ printed-report d e;
       marked = λ d first listed e. marks-correct d e;
       hard = λ d first listed e. hard-listed d e;

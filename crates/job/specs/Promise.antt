@@ -63,6 +63,9 @@ pub record Output-correct : Type 0 where
   -- a job that is refused, which is as the domain search refuses it, prints its number alone
   pub refuses : (d : Domain) (n : ℕ) → (answer-of d ≡ Refused n) ↔ Refused-for d 4096 n
   pub job-refused : (d : Domain) (n : ℕ) → In-range d → answer-of d ≡ Refused n → output-of (rendering d) ≡ refused n
+  -- a job with a window of 0 that nothing asked before the window refuses prints the single line of refusal 5
+  pub without-window : (d : Domain) → d .window ≡ 0 → 2 ≤ d .modulus → d .modulus ≤ 2 ^ 62 → d .slope < d .modulus → d .value < d .modulus
+      → 1 ≤ d .count → d .count ≤ 1048576 → natAbs (d .curve) < 2 ^ 63 → output-of (rendering d) ≡ bytes "refused=5\n"
   -- a job that is not refused prints phase 1's verdict, the marks, how many arguments are listed, and a line for each hard argument: these are
   -- exactly the hard ones in the job's own numbers, each once and ascending
   pub job-reported : (d : Domain) (first : Verdict) (listed : ℕ) → In-range d → answer-of d ≡ Searched first listed

@@ -1,6 +1,6 @@
 -- The centred parabola: its values are the values raised by w - 1, so that an argument is hard exactly where V(x) is near a multiple of the modulus on
 -- either side; its covering segment is document 02's, and its parts are those of the parabola, each centred. Assumes nothing.
-use mathlib.Core.Path.{_≡_, refl, sym, _∙_, ap, subst}
+use mathlib.Core.Path.{_≡_, refl, sym, _∙_, ap}
 use mathlib.Core.Logic.{_↔_, _⊎_, inl, inr, ⊎-elim, by-cases}
 use Prim.Native.Nat.{ℕ, suc, _+_, _-_, _*_, _%_, _≤_, _<_, min}
 use native.Mathlib.Nat.{mod-lt, mod-eq-of-lt, mod-add-mod}
@@ -9,7 +9,7 @@ use native.Mathlib.Omega.{arith}
 use Rattle.numbers.proofs.Congruences.{equals, flip, chain, plus, remainder, is-remainder}
 use Rattle.numbers.proofs.Integers.{gain, loss}
 use Rattle.parabola.specs.Parabola.{Parabola, triangle, value-at, slope-at, centred, spread, covering, continued, part-start, part-count, part, In-range}
-use Rattle.parabola.specs.Promise.{Covers-by, Covering-correct, Covering-both-correct, Centred-correct}
+use Rattle.parabola.specs.Promise.{Covering-correct, Covering-both-correct, Centred-correct}
 use Rattle.parabola.proofs.Values.{value-congruent, value-is, value-below}
 use Rattle.parabola.proofs.Coverings.{covering-correct}
 
@@ -27,16 +27,7 @@ module _ (p : Parabola) (range : In-range p) where
 
   within : In-range (centred p)
   unfolding centred
-  within =
-      record {
-        unit-within = range .unit-within;
-        slope-below = range .slope-below;
-        value-below = mod-lt _ positive;
-        count-low = range .count-low;
-        count-high = range .count-high;
-        window-within = omega arith;
-        size-small = range .size-small;
-      }
+  within = omega (arith, mod-lt (p .value + (p .window - 1)) positive, range)
 
   raised : (x : ℕ) → value-at (centred p) x ≡ (value-at p x + (p .window - 1)) % p .unit
   unfolding centred
@@ -57,15 +48,8 @@ module _ (p : Parabola) (range : In-range p) where
   hard : (x : ℕ) → (value-at (centred p) x < centred p .window) ↔ ((value-at p x < p .window) ⊎ (p .unit - value-at p x < p .window))
   unfolding centred
   hard x =
-      let r = raised-below (p .unit) (p .window) (value-at p x) (value-below p positive x) (range .window-within) in
+      let r = raised-below (p .unit) (p .window) (value-at p x) (value-below p positive x) (range .window-high) in
       (λ h. r .0 (omega (arith, h, raised x)), λ n. omega (arith, r .1 n, raised x))
-
-  unchanged : p .window ≡ 0 → centred p ≡ p
-  unfolding centred
-  unchanged e =
-      let v : (p .value + (p .window - 1)) % p .unit ≡ p .value = sym (is-remainder (range .value-below) (equals (omega arith))) in
-      let w : min (p .unit) (2 * p .window - 1) ≡ p .window = omega arith in
-      λ j. record { unit = p .unit; value = v j; slope = p .slope; curve = p .curve; count = p .count; window = w j }
 
   parts : (i : ℕ) → part (centred p) i ≡ centred (part p i)
   unfolding centred continued part-start part-count
@@ -102,13 +86,10 @@ module _ (p : Parabola) (range : In-range p) where
         numbers = record {
           unit = refl;
           step = covers-centred .numbers .step;
-          start-rising = λ n D e d h. covers-centred .numbers .start-rising n D e d ∙ once (p .value) D ∙ ap (λ (k : ℕ). k % p .unit) (omega arith);
-          start-falling = λ n e h. covers-centred .numbers .start-falling n e;
+          start-rising = λ n D e d. covers-centred .numbers .start-rising n D e d ∙ once (p .value) D ∙ ap (λ (k : ℕ). k % p .unit) (omega arith);
+          start-falling = λ n e. covers-centred .numbers .start-falling n e;
           count = refl;
-          window = λ D d h. covers-centred .numbers .window D d ∙ omega arith;
-          unchanged = λ e. subst (λ (w : ℕ). Covers-by (p .unit) (p .value) (p .slope) (p .curve) (p .count) w (covering (centred p))) e
-              (subst (λ q. Covers-by (p .unit) (p .value) (p .slope) (p .curve) (p .count) (p .window) (covering q)) (sym (unchanged e))
-              (covers-itself .numbers));
+          window = λ D d. covers-centred .numbers .window D d ∙ omega arith;
         };
         spread-is = covers-itself .spread-is;
         rising = λ n e x h. covers-centred .rising n e x h ∙ rw (raised x, same-spread) (once (value-at p x) (spread p - n * triangle x));
@@ -128,5 +109,4 @@ module _ (p : Parabola) (range : In-range p) where
         hard = hard;
         covering-both = covers-both;
         parts = parts;
-        unchanged = unchanged;
       }

@@ -58,16 +58,7 @@ module _ (p : Parabola) (range : In-range p) where
 
   in-range-of : (i : ℕ) → 1 ≤ part-count (p .count) i → In-range (part p i)
   unfolding continued part-count
-  in-range-of i some =
-      record {
-        unit-within = range .unit-within;
-        slope-below = slope-below p positive (start i);
-        value-below = value-below p positive (start i);
-        count-low = some;
-        count-high = omega (arith, range .count-high);
-        window-within = range .window-within;
-        size-small = range .size-small;
-      }
+  in-range-of i some = omega (arith, slope-below p positive (start i), value-below p positive (start i), range)
 
   -- ---- what the parts list
 

@@ -54,8 +54,7 @@ Hard p x = (x < p .count) × (value-at p x < p .window)
 
 -- ---- both sides of a breakpoint
 
--- the parabola raised by w - 1, modulo M, with the window 2w - 1, or M where M is less: its hard arguments are those with V(x) < w or M - V(x) < w. For
--- a window of 0 both differences are 0, and a value below M stays as it is
+-- the parabola raised by w - 1, modulo M, with the window 2w - 1, or M where M is less: its hard arguments are those with V(x) < w or M - V(x) < w
 unfoldable pub centred : Parabola → Parabola
 centred p =
     record {
@@ -121,7 +120,8 @@ pub record In-range (p : Parabola) : Type 0 where
   pub value-below : p .value < p .unit
   pub count-low : 1 ≤ p .count
   pub count-high : p .count ≤ 1048576
-  pub window-within : p .window ≤ p .unit
+  pub window-low : 1 ≤ p .window
+  pub window-high : p .window ≤ p .unit
   pub size-small : natAbs (p .curve) ≤ 1048576
 
 -- ---- lines

@@ -59,16 +59,14 @@ pub record Covering-correct (p : Parabola) : Type 0 where
 
 -- ---- both sides of a breakpoint
 
--- a segment is the covering one of both sides by six numbers. For w of 1 or more the start gains w - 1, modulo M, and the window is the smaller of M and
--- 2w - 1 + D; for w of 0 nothing changes
+-- a segment is the covering one of both sides by six numbers: the start gains w - 1, modulo M, and the window is the smaller of M and 2w - 1 + D
 pub record Covers-both-by (M c0 c1 : ℕ) (s : ℤ) (N w : ℕ) (segment : Segment) : Type 0 where
   pub unit : segment .unit ≡ M
   pub step : segment .step ≡ negℤ (pos c1) modulo M
-  pub start-rising : (n D : ℕ) → s ≡ pos n → 2 * D ≡ n * (N * (N - 1)) → 1 ≤ w → segment .start ≡ (c0 + D + (w - 1)) % M
-  pub start-falling : (n : ℕ) → s ≡ negsuc n → 1 ≤ w → segment .start ≡ (c0 + (w - 1)) % M
+  pub start-rising : (n D : ℕ) → s ≡ pos n → 2 * D ≡ n * (N * (N - 1)) → segment .start ≡ (c0 + D + (w - 1)) % M
+  pub start-falling : (n : ℕ) → s ≡ negsuc n → segment .start ≡ (c0 + (w - 1)) % M
   pub count : segment .count ≡ N
-  pub window : (D : ℕ) → 2 * D ≡ natAbs s * (N * (N - 1)) → 1 ≤ w → segment .window ≡ min M (2 * w - 1 + D)
-  pub unchanged : w ≡ 0 → Covers-by M c0 c1 s N 0 segment
+  pub window : (D : ℕ) → 2 * D ≡ natAbs s * (N * (N - 1)) → segment .window ≡ min M (2 * w - 1 + D)
 
 -- a segment covers both sides of a parabola: it has those numbers; modulo M it lies above the values, raised by w - 1, by what the curve may still add, D at 0
 -- and nothing at N, or by what it has taken, nothing at 0 and D at N; and where the value at an argument below N is less than w from a multiple of M, the
@@ -83,8 +81,7 @@ pub record Covering-both-correct (p : Parabola) (segment : Segment) : Type 0 whe
   pub covers : (x : ℕ) → x < p .count → (value-at p x < p .window) ⊎ (p .unit - value-at p x < p .window) → residue segment x < segment .window
 
 -- the centred parabola is the same but for the window, the smaller of M and 2w - 1, and the values, which gain w - 1, modulo M. A value is then less than
--- the window exactly where V(x) < w or M - V(x) < w. Its covering segment covers both sides, and its parts are those of the parabola, each centred. For w
--- of 0 it is the parabola itself
+-- the window exactly where V(x) < w or M - V(x) < w. Its covering segment covers both sides, and its parts are those of the parabola, each centred
 pub record Centred-correct (p : Parabola) : Type 0 where
   pub start : centred p .value ≡ (p .value + (p .window - 1)) % p .unit
   pub window : centred p .window ≡ min (p .unit) (2 * p .window - 1)
@@ -95,7 +92,6 @@ pub record Centred-correct (p : Parabola) : Type 0 where
   pub hard : (x : ℕ) → (value-at (centred p) x < centred p .window) ↔ ((value-at p x < p .window) ⊎ (p .unit - value-at p x < p .window))
   pub covering-both : Covering-both-correct p (covering (centred p))
   pub parts : (i : ℕ) → part (centred p) i ≡ centred (part p i)
-  pub unchanged : p .window ≡ 0 → centred p ≡ p
 
 -- ---- the parts
 

@@ -7,7 +7,7 @@ use Rattle.numbers.proofs.Checklists.{accepts, refuses}
 use Rattle.expansion.specs.Reached.{Search}
 use Rattle.expansion.specs.Reached.Search.{regular, fine}
 use Rattle.geometry.specs.Segment.{Segment, residue}
-use Rattle.segment.specs.Accepted.{asked, checks, refusal, Searchable, Accepted}
+use Rattle.segment.specs.Accepted.{asked, checks, refusal, Accepted}
 use Rattle.segment.specs.Search.{argument, distance, verdict-at}
 use Rattle.segment.specs.Answer.{regular-shown, fine-shown, regular-answer-with, fine-answer-with, regular-answer, fine-answer}
 use Rattle.segment.specs.State.{points, state-after}
@@ -55,16 +55,16 @@ module _ (M a b N w : ℕ) (c : Accepted (asked M a b N w)) where
 -- ---- the end of a search
 
 -- of an accepted segment, after 29 steps; the window plays no part in them
-ended-with : (k : Search) (M a b N w : ℕ) {t : State} → Accepted (asked M a b N w) → t ≡ state-after k (asked M a b N 0) 29 → Ended k (asked M a b N w) t
+ended-with : (k : Search) (M a b N w : ℕ) {t : State} → Accepted (asked M a b N w) → t ≡ state-after k (asked M a b N 1) 29 → Ended k (asked M a b N w) t
 unfolding residue
 ended-with k M a b N w {t} c e =
-    let searchable : Searchable (asked M a b N 0) = omega arith in
-    let end : Ended k (asked M a b N 0) t = rw e (ended k searchable) in
+    let with-1 : Accepted (asked M a b N 1) = omega arith in
+    let end : Ended k (asked M a b N 1) t = rw e (ended k with-1) in
     search
 
 -- its points fit a word
-pub points-few : (k : Search) (M a b N w : ℕ) {t : State} → Accepted (asked M a b N w) → t ≡ state-after k (asked M a b N 0) 29 → points t ≤ 2 ^ 62
-points-few k M a b N w c e = omega (arith, c .searchable .unit-within, ended-with k M a b N w c e .fits)
+pub points-few : (k : Search) (M a b N w : ℕ) {t : State} → Accepted (asked M a b N w) → t ≡ state-after k (asked M a b N 1) 29 → points t ≤ 2 ^ 62
+points-few k M a b N w c e = omega (arith, c .unit-within, ended-with k M a b N w c e .fits)
 
 module _ {k : Search} {s : Segment} {t : State} (e : Ended k s t) where
   argument-is : argument k s ≡ t .argument
@@ -76,7 +76,7 @@ module _ {k : Search} {s : Segment} {t : State} (e : Ended k s t) where
   distance-is = ap (residue s) argument-is ∙ sym (e .shows)
 
 module _ (M a b N w : ℕ) {t : State} (c : Accepted (asked M a b N w)) where
-  pub regular-answered : t ≡ state-after regular (asked M a b N 0) 29
+  pub regular-answered : t ≡ state-after regular (asked M a b N 1) 29
       → regular-variants.Shown (record {
         count = points t;
         quotients = t .index;
@@ -87,7 +87,7 @@ module _ (M a b N w : ℕ) {t : State} (c : Accepted (asked M a b N w)) where
   unfolding regular-shown
   regular-answered e = let end = ended-with regular M a b N w c e in rw (regular-shows M a b N w c, end .label, argument-is end, distance-is end)
 
-  pub fine-answered : t ≡ state-after fine (asked M a b N 0) 29
+  pub fine-answered : t ≡ state-after fine (asked M a b N 1) 29
       → fine-variants.Shown (record {
         count = points t;
         index = t .index;

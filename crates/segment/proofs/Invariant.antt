@@ -16,7 +16,7 @@ use Rattle.expansion.proofs.Laws.{one-reached, rows-reached, row-reached}
 use Rattle.geometry.specs.Segment.{Segment, residue}
 use Rattle.geometry.specs.TwoLength.{Position, Least}
 use Rattle.geometry.proofs.Laws.{whole, short-positive, long-positive, first-position, least, cut-even, stay-odd, move-odd, residue-start}
-use Rattle.segment.specs.Accepted.{Searchable}
+use Rattle.segment.specs.Accepted.{Accepted}
 use Rattle.segment.specs.Search.{reached-in}
 use Rattle.segment.specs.State.{points, first-state, advanced-left, highest-cut, cut-state}
 use Rattle.segment.specs.declared.state.State.{State}
@@ -62,7 +62,7 @@ ended-at t p e = record { least = least p; shows = p .shows; label = e; fits = p
 
 -- at the first configuration of a row that is not the last
 pub record Running (k : Search) (s : Segment) (odd : Bool) (t : State) : Type 0 where
-  pub searchable : Searchable s
+  pub accepted : Accepted s
   pub holds : State-holds s odd t
   pub falls : t .short < t .long
   pub below : points t < s .count
@@ -93,7 +93,7 @@ row-few {t = t} r =
 
 -- ---- the start
 
-module _ (k : Search) (s : Segment) (a : Searchable s) where
+module _ (k : Search) (s : Segment) (a : Accepted s) where
   abbrev start : State
   start = first-state (s .unit) (s .step) (s .start) (s .count)
 
@@ -111,7 +111,7 @@ module _ (k : Search) (s : Segment) (a : Searchable s) where
   unfolding first-state
   begins-running h l =
       record {
-        searchable = a;
+        accepted = a;
         holds = first-position h (a .step-below) (a .start-below);
         falls = a .step-below;
         below = omega arith;

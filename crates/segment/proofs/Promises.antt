@@ -13,7 +13,8 @@ use Rattle.geometry.proofs.Promises as geometry
 use Rattle.segment.specs.Accepted.{asked, checks, refusal, Accepted}
 use Rattle.segment.specs.Search.{reached-in, argument, distance, verdict}
 use Rattle.segment.specs.Answer.{regular-shown, fine-shown, regular-answer-with, fine-answer-with, regular-answer, fine-answer}
-use Rattle.segment.specs.Promise.{Refused-for, Regular-answer-correct, Fine-answer-correct, Regular-clears, Fine-clears, Cleared, Smaller-cleared, Fine-reaches-no-more, Verdicts-correct, Promised}
+use Rattle.segment.specs.State.{next}
+use Rattle.segment.specs.Promise.{Refused-for, Regular-answer-correct, Fine-answer-correct, Regular-clears, Fine-clears, Cleared, Smaller-cleared, Fine-reaches-no-more, Verdicts-correct, Without-window, Promised}
 use Rattle.segment.specs.declared.Verdict.{Verdict}
 use Rattle.segment.specs.declared.Verdict.the-variants.{Clear, Possible}
 use Rattle.segment.specs.declared.RegularAnswer.the-variants as regular-variants
@@ -24,7 +25,7 @@ use Rattle.segment.proofs.Showing.{argument-below, distance-least, clea
 
 -- what the expansion promises of the searches of an accepted segment
 searches : {s : Segment} → Accepted s → Searches-correct (s .unit) (s .step)
-searches {s} c = expansion.promised .searches (s .unit) (s .step) (c .searchable .step-below)
+searches {s} c = expansion.promised .searches (s .unit) (s .step) (c .step-below)
 
 -- every segment is accepted, or refused by a number that its condition gives
 decide : (s : Segment) → ((refusal s ≡ 0) × Accepted s) ⊎ ((n : ℕ) × (refusal s ≡ suc n) × Refused-for s (suc n))
@@ -42,15 +43,15 @@ regular-answers M a b N w =
     ⊎-elim
     (λ c. rw (c .0) (
       c .1,
-      rw (searches (c .1) .regular-ones, searches (c .1) .regular-label N) at (shown-correct regular (c .1 .searchable)),
-      searches (c .1) .few-quotients N (c .1 .searchable .count-high),
+      rw (searches (c .1) .regular-ones, searches (c .1) .regular-label N) at (shown-correct regular (c .1)),
+      searches (c .1) .few-quotients N (c .1 .count-high),
     ))
     (λ r. rw (r .1) (r .2)) (decide (asked M a b N w))
 
 fine-answers : (M a b N w : ℕ) → Fine-answer-correct (asked M a b N w) (fine-answer M a b N w)
 unfolding fine-answer fine-answer-with fine-shown Fine-answer-correct
 fine-answers M a b N w =
-    ⊎-elim (λ c. rw (c .0) (c .1, rw (searches (c .1) .fine-ones) at (shown-correct fine (c .1 .searchable)))) (λ r. rw (r .1) (r .2)) (decide (asked M a b N w))
+    ⊎-elim (λ c. rw (c .0) (c .1, rw (searches (c .1) .fine-ones) at (shown-correct fine (c .1)))) (λ r. rw (r .1) (r .2)) (decide (asked M a b N w))
 
 -- a number refuses exactly where its condition is the first that does not hold
 module _ (M a b N w n : ℕ) where
@@ -92,11 +93,11 @@ still-cleared : (j k : Search) (M a b N w N′ w′ : ℕ) → w′ ≤ w → Ac
 unfolding residue distance
 still-cleared j k M a b N w N′ w′ v c h c′ l =
     let x = argument j (asked M a b N′ w′) in
-    let d = distance-least k (c .searchable) x (omega (arith, l, argument-below j (c′ .searchable))) in
+    let d = distance-least k c x (omega (arith, l, argument-below j c′)) in
     cleared-iff j M a b N′ w′ c′ .0 (verdict-iff (distance j (asked M a b N′ w′)) w′ .0 .1 (omega arith))
 
 smaller : Smaller-cleared
-smaller k M a b N w N′ w′ some n v h =
+smaller k M a b N w N′ w′ some n low v h =
     let c = cleared-accepted k M a b N w h in
     let c′ : Accepted (asked M a b N′ w′) = omega arith in
     let d = verdict-iff (distance k (asked M a b N w)) w .0 .0 (cleared-iff k M a b N w c .1 h) in (
@@ -125,9 +126,19 @@ verdicts k M a b N w c =
       answered = cleared-iff k M a b N w c;
       by-distance = verdict-iff (distance k (asked M a b N w)) w .0;
       possible = verdict-iff (distance k (asked M a b N w)) w .1;
-      distance-of = unfold distance in (argument k (asked M a b N w), argument-below k (c .searchable), refl);
-      distance-least = distance-least k (c .searchable);
-      none-hard = λ e. cleared-none k (c .searchable) (verdict-iff (distance k (asked M a b N w)) w .0 .0 e);
+      distance-of = unfold distance in (argument k (asked M a b N w), argument-below k c, refl);
+      distance-least = distance-least k c;
+      none-hard = λ e. cleared-none k c (verdict-iff (distance k (asked M a b N w)) w .0 .0 e);
+    }
+
+without-window : (M a b N : ℕ) → Without-window M a b N
+without-window M a b N =
+    record {
+      none-hard = λ x h. omega (arith, h .1);
+      not-cleared = λ k h. omega (arith, cleared-accepted k M a b N 0 h .window-low);
+      refused = λ l m a< b< n k.
+          let r : Refused-for (asked M a b N 0) 5 = inr ((l, m), inr (a<, inr (b<, inr ((n, k), inl (refl, λ w. omega (arith, w .0)))))) in
+          (refused-for (asked M a b N 0) 4 .1 r, regular-refuses M a b N 0 5 .1 r, fine-refuses M a b N 0 5 .1 r);
     }
 
 two-verdicts : (v : Verdict) → (v ≡ Clear) ⊎ (v ≡ Possible)
@@ -137,7 +148,7 @@ two-verdicts Possible = inr refl
 pub promised : Promised
 promised =
     record {
-      residues = λ s c. geometry.promised .residues s (c .searchable .step-below) (c .searchable .start-below);
+      residues = λ s c. geometry.promised .residues s (c .step-below) (c .start-below);
       asked-is = λ M a b N w. refl;
       accepted = λ M a b N w. accepted (asked M a b N w);
       accepted-is = λ M a b N w. (λ c. omega arith, λ h. omega arith);
@@ -146,9 +157,11 @@ promised =
       fine-answers = fine-answers;
       regular-refused = regular-refuses;
       fine-refused = fine-refuses;
-      steps = λ k s c. steps-correct k (c .searchable);
+      steps = λ k s c. steps-correct k c;
+      step-of = λ odd N t. unfold next in (refl, refl);
       smaller = smaller;
       no-more = no-more;
       verdicts = verdicts;
+      without-window = without-window;
       two-verdicts = two-verdicts;
     }

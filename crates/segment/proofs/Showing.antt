@@ -13,13 +13,13 @@ use Rattle.expansion.specs.Promise.{Reached-correct}
 use Rattle.expansion.proofs.Promises as expansion
 use Rattle.geometry.specs.Segment.{Segment, residue}
 use Rattle.geometry.proofs.Laws.{distinct, residue-of-remainder}
-use Rattle.segment.specs.Accepted.{Searchable}
+use Rattle.segment.specs.Accepted.{Accepted}
 use Rattle.segment.specs.Search.{reached-in, argument, distance, verdict-at, verdict}
 use Rattle.segment.specs.Promise.{Shown-correct}
 use Rattle.segment.specs.declared.Verdict.the-variants.{Clear, Possible}
 use Rattle.segment.proofs.Minimum.{found-best}
 
-module _ (k : Search) {s : Segment} (a : Searchable s) where
+module _ (k : Search) {s : Segment} (a : Accepted s) where
   reached-correct : Reached-correct (configurations-of k (s .unit) (s .step)) (period (s .unit) (s .step)) (s .count) (reached-in k s)
   reached-correct = expansion.promised .searches (s .unit) (s .step) (a .step-below) .reaches k (s .count)
 
@@ -70,7 +70,7 @@ verdict-iff d w =
 
 -- ---- all that is shown
 
-pub shown-correct : (k : Search) {s : Segment} → Searchable s
+pub shown-correct : (k : Search) {s : Segment} → Accepted s
     → Shown-correct (configurations-of k (s .unit) (s .step)) s (reached-in k s) (distance k s) (argument k s) (verdict k s)
 unfolding distance
 shown-correct k {s} a =

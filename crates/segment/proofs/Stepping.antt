@@ -15,7 +15,7 @@ use Rattle.expansion.proofs.Promises as expansion
 use Rattle.geometry.specs.Segment.{Segment, residue}
 use Rattle.geometry.specs.TwoLength.{Least}
 use Rattle.geometry.proofs.Laws.{short-positive, least}
-use Rattle.segment.specs.Accepted.{Searchable}
+use Rattle.segment.specs.Accepted.{Accepted}
 use Rattle.segment.specs.State.{points, first-state, next, odd-after, state-after}
 use Rattle.segment.specs.Promise.{At-configuration, Steps-correct}
 use Rattle.segment.specs.declared.state.State.{State}
@@ -67,7 +67,7 @@ record Stepped (k : Search) (s : Segment) (n : ℕ) (t : State) : Type 0 where
   invariant : Search-invariant k s (odd-after n) t
   drawn : t .done ≡ false → t .index ≡ n
 
-module _ (k : Search) {s : Segment} (a : Searchable s) where
+module _ (k : Search) {s : Segment} (a : Accepted s) where
   stepped : (n : ℕ) → Stepped k s n (state-after k s n)
   unfolding odd-after
   stepped zero = record { invariant = unfold state-after in begins k s a refl; drawn = unfold state-after first-state in λ _. refl }
@@ -153,16 +153,16 @@ module _ (k : Search) {s : Segment} (a : Searchable s) where
 
 -- a state of a search that is not done, at an even or at an odd row
 pub record At (k : Search) (s : Segment) (odd : Bool) (t : State) : Type 0 where
-  pub searchable : Searchable s
+  pub accepted : Accepted s
   pub steps : ℕ
   pub is : t ≡ state-after k s steps
   pub parity : odd-after steps ≡ odd
   pub runs : t .done ≡ false
 
-module _ (k : Search) {s : Segment} (a : Searchable s) {t : State} (e : t ≡ first-state (s .unit) (s .step) (s .start) (s .count)) where
+module _ (k : Search) {s : Segment} (a : Accepted s) {t : State} (e : t ≡ first-state (s .unit) (s .step) (s .start) (s .count)) where
   pub first-runs : t .done ≡ false → At k s false t
   unfolding state-after odd-after
-  first-runs d = record { searchable = a; steps = 0; is = e; parity = refl; runs = d }
+  first-runs d = record { accepted = a; steps = 0; is = e; parity = refl; runs = d }
 
   pub first-done : t .done ≡ true → t ≡ state-after k s 29
   unfolding state-after
@@ -173,7 +173,7 @@ module _ {k : Search} {s : Segment} {odd : Bool} {t : State} (p : At k s odd t) 
   not-done = ap (λ (t : State). t .done) (sym (p .is)) ∙ p .runs
 
   pub running : Running k s odd t
-  running = rw (p .parity, sym (p .is)) at (running-after k (p .searchable) (p .steps) not-done)
+  running = rw (p .parity, sym (p .is)) at (running-after k (p .accepted) (p .steps) not-done)
 
   module _ {t′ : State} (e : t′ ≡ next k odd (s .count) t) where
     next-is : t′ ≡ state-after k s (suc (p .steps))
@@ -181,10 +181,10 @@ module _ {k : Search} {s : Segment} {odd : Bool} {t : State} (p : At k s odd t) 
 
     pub goes-on : t′ .done ≡ false → At k s (not odd) t′
     unfolding odd-after
-    goes-on d = record { searchable = p .searchable; steps = suc (p .steps); is = next-is; parity = ap not (p .parity); runs = d }
+    goes-on d = record { accepted = p .accepted; steps = suc (p .steps); is = next-is; parity = ap not (p .parity); runs = d }
 
     pub is-done : t′ .done ≡ true → t′ ≡ state-after k s 29
     is-done d =
-        let few : p .steps < 29 = few k (p .searchable) (p .steps) not-done in
+        let few : p .steps < 29 = few k (p .accepted) (p .steps) not-done in
         let end : suc (p .steps) + (28 - p .steps) ≡ 29 = omega arith in
         next-is ∙ sym (rw end at (stays-on k s (suc (p .steps)) (28 - p .steps) (ap (λ (t : State). t .done) (sym next-is) ∙ d)))

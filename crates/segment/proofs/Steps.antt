@@ -64,7 +64,7 @@ module _ {k : Search} {s : Segment} {odd : Bool} {t : State} (r : Running k s od
           room = le-of-lt all-left;
           within = distance-below (r .holds) falls;
           below = least (r .holds) .below;
-          fits = omega (arith, r .searchable .unit-within, points-fit (cut-state odd (all-cuts t) t) all-holds);
+          fits = omega (arith, r .accepted .unit-within, points-fit (cut-state odd (all-cuts t) t) all-holds);
         };
         falls = falls;
         row = row-few r;
@@ -99,7 +99,7 @@ module _ {k : Search} {s : Segment} {odd : Bool} {t : State} (r : Running k s od
     unfolding regular-next cut-state
     next-running go e =
         record {
-          searchable = r .searchable;
+          accepted = r .accepted;
           holds = turned all-holds;
           falls = rest-falls;
           below = passed h e;

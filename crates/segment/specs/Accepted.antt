@@ -18,22 +18,19 @@ checks s =
     expansion.checks (s .unit) (s .step)
     ++ check 3 (decLt (s .start) (s .unit))
     ∷ check 4 (Dec·and (decLe 1 (s .count)) (decLe (s .count) 1048576))
-    ∷ check 5 (decLe (s .window) (s .unit))
+    ∷ check 5 (Dec·and (decLe 1 (s .window)) (decLe (s .window) (s .unit)))
     ∷ []
 
 -- the number of the first condition that does not hold, or 0
 unfoldable pub refusal : Segment → ℕ
 refusal s = first-failing (checks s)
 
--- what a search asks of a segment: all but its window
-pub record Searchable (s : Segment) : Type 0 where
+-- what is asked of a segment
+pub record Accepted (s : Segment) : Type 0 where
   pub unit-within : Ranged (s .unit)
   pub step-below : s .step < s .unit
   pub start-below : s .start < s .unit
   pub count-low : 1 ≤ s .count
   pub count-high : s .count ≤ 1048576
-
--- what is asked of a segment
-pub record Accepted (s : Segment) : Type 0 where
-  pub searchable : Searchable s
-  pub window-within : s .window ≤ s .unit
+  pub window-low : 1 ≤ s .window
+  pub window-high : s .window ≤ s .unit

@@ -1,7 +1,7 @@
 -- What is promised of both searches (the third demand), with the letters of document 01: M the modulus, a the step, b the start, N the count,
 -- w the window, P the period. `Promised`, at the end, is all of it; proofs/Promises.antt proves it. Assumes nothing: these are statements.
 use mathlib.Core.Path.{_≡_}
-use mathlib.Core.Bool.{true, false}
+use mathlib.Core.Bool.{Bool, true, false}
 use mathlib.Core.List.{List, [], _∷_, List·Memᴰ}
 use mathlib.Core.Logic.{_↔_, _⊎_}
 use Prim.Native.Nat.{ℕ, suc, _+_, _^_, _≤_, _<_}
@@ -17,7 +17,7 @@ use Rattle.geometry.specs.Promise.{Residues-correct}
 use Rattle.segment.specs.Accepted.{asked, refusal, Accepted}
 use Rattle.segment.specs.Search.{verdict, distance}
 use Rattle.segment.specs.Answer.{regular-answer, fine-answer}
-use Rattle.segment.specs.State.{next, odd-after, state-after}
+use Rattle.segment.specs.State.{regular-next, fine-next, next, odd-after, state-after}
 use Rattle.segment.specs.declared.state.State.{State}
 use Rattle.segment.specs.declared.Verdict.{Verdict}
 use Rattle.segment.specs.declared.Verdict.the-variants.{Clear, Possible}
@@ -37,7 +37,7 @@ Asked s =
     ∷ condition 2 (s .step < s .unit)
     ∷ condition 3 (s .start < s .unit)
     ∷ condition 4 ((1 ≤ s .count) × (s .count ≤ 1048576))
-    ∷ condition 5 (s .window ≤ s .unit)
+    ∷ condition 5 ((1 ≤ s .window) × (s .window ≤ s .unit))
     ∷ []
 
 -- a number refuses a segment: its condition is the first that does not hold
@@ -113,10 +113,10 @@ Cleared regular M a b N w = Regular-clears (regular-answer M a b N w)
 Cleared fine M a b N w = Fine-clears (fine-answer M a b N w)
 
 -- where a segment is cleared, so is every one of the same line with a count up to its count and a window up to its window: by the same search,
--- and by the fine one. A count of 0 is refused
+-- and by the fine one. A count of 0 is refused, and so is a window of 0
 abbrev pub Smaller-cleared : Type 0
 Smaller-cleared =
-    (k : Search) (M a b N w N′ w′ : ℕ) → 1 ≤ N′ → N′ ≤ N → w′ ≤ w → Cleared k M a b N w → Cleared k M a b N′ w′ × Cleared fine M a b N′ w′
+    (k : Search) (M a b N w N′ w′ : ℕ) → 1 ≤ N′ → N′ ≤ N → 1 ≤ w′ → w′ ≤ w → Cleared k M a b N w → Cleared k M a b N′ w′ × Cleared fine M a b N′ w′
 
 -- the fine search reaches no more points than the regular one
 abbrev pub Fine-reaches-no-more : Type 0
@@ -138,6 +138,14 @@ pub record Verdicts-correct (k : Search) (M a b N w : ℕ) : Type 0 where
 abbrev pub for-segment : (Segment → Type 0) → (M a b N w : ℕ) → Type 0
 for-segment P M a b N w = P (record { unit = M; step = a; start = b; count = N; window = w })
 
+-- a segment with a window of 0 has no hard argument: where one was cleared before document 02's 2.3, that said the truth. Now neither search clears it, and both refuse it by 5
+-- where nothing that is asked before the window does
+pub record Without-window (M a b N : ℕ) : Type 0 where
+  pub none-hard : (x : ℕ) → for-segment (λ s. Hard s x → ⊥) M a b N 0
+  pub not-cleared : (k : Search) → Cleared k M a b N 0 → ⊥
+  pub refused : 2 ≤ M → M ≤ 2 ^ 62 → a < M → b < M → 1 ≤ N → N ≤ 1048576
+      → (refusal (asked M a b N 0) ≡ 5) × (regular-answer M a b N 0 ≡ regular-variants.Refused 5) × (fine-answer M a b N 0 ≡ fine-variants.Refused 5)
+
 -- all of it: a number refuses exactly where its condition is the first that does not hold
 pub record Promised : Type 0 where
   pub residues : (s : Segment) → Accepted s → Residues-correct s
@@ -147,15 +155,18 @@ pub record Promised : Type 0 where
   -- a segment is accepted exactly where its five numbers are within 01's bounds
   pub accepted-is : (M a b N w : ℕ)
       → for-segment Accepted M a b N w
-      ↔ ((2 ≤ M) × (M ≤ 2 ^ 62) × (a < M) × (b < M) × (1 ≤ N) × (N ≤ 1048576) × (w ≤ M))
+      ↔ ((2 ≤ M) × (M ≤ 2 ^ 62) × (a < M) × (b < M) × (1 ≤ N) × (N ≤ 1048576) × (1 ≤ w) × (w ≤ M))
   pub refused : (M a b N w n : ℕ) → for-segment (λ s. (refusal s ≡ suc n) ↔ Refused-for s (suc n)) M a b N w
   pub regular-answers : (M a b N w : ℕ) → for-segment (λ s. Regular-answer-correct s (regular-answer M a b N w)) M a b N w
   pub fine-answers : (M a b N w : ℕ) → for-segment (λ s. Fine-answer-correct s (fine-answer M a b N w)) M a b N w
   pub regular-refused : (M a b N w n : ℕ) → for-segment (λ s. (regular-answer M a b N w ≡ regular-variants.Refused n) ↔ Refused-for s n) M a b N w
   pub fine-refused : (M a b N w n : ℕ) → for-segment (λ s. (fine-answer M a b N w ≡ fine-variants.Refused n) ↔ Refused-for s n) M a b N w
   pub steps : (k : Search) (s : Segment) → Accepted s → Steps-correct k s
+  -- the step of each search is the one that the functions of the code take
+  pub step-of : (odd : Bool) (N : ℕ) (t : State) → (next regular odd N t ≡ regular-next odd N t) × (next fine odd N t ≡ fine-next odd N t)
   pub smaller : Smaller-cleared
   pub no-more : Fine-reaches-no-more
   pub verdicts : (k : Search) (M a b N w : ℕ) → for-segment Accepted M a b N w → Verdicts-correct k M a b N w
+  pub without-window : (M a b N : ℕ) → Without-window M a b N
   -- there is no third verdict
   pub two-verdicts : (v : Verdict) → (v ≡ Clear) ⊎ (v ≡ Possible)

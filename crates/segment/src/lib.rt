@@ -2,7 +2,7 @@
 // argument of least residue below the count that it reaches, and clears the segment where that residue is no less than the window.
 ghost use mathlib.Core.Path.{_≡_};
 ghost use Rattle.expansion.specs.Reached.Search.{regular, fine};
-ghost use Rattle.segment.specs.Accepted.{asked, refusal, Searchable};
+ghost use Rattle.segment.specs.Accepted.{asked, refusal, Accepted};
 ghost use Rattle.segment.specs.Search.{verdict-at};
 ghost use Rattle.segment.specs.Answer.{regular-answer, fine-answer};
 ghost use Rattle.segment.specs.State.{state-after};
@@ -97,7 +97,7 @@ pub fn fine_search(modulus: u64, step: u64, start: u64, count: u64, window: u64)
 }
 
 // The number of the first condition that does not hold: 1 and 2 as for the expansion of the modulus and the step, else 3 for a start that is not
-// below the modulus, else 4 for a count outside 1 to 1,048,576, else 5 for a window above the modulus. 0 where all hold.
+// below the modulus, else 4 for a count outside 1 to 1,048,576, else 5 for a window outside 1 to the modulus. 0 where all hold.
 pub fn refuse(modulus: u64, step: u64, start: u64, count: u64, window: u64) -> u32
     ensures { λ r. ⌜ r ≡ refusal (asked modulus step start count window) ⌝ }
 {
@@ -114,16 +114,20 @@ pub fn refuse(modulus: u64, step: u64, start: u64, count: u64, window: u64) -> u
     if LARGEST_COUNT < count {
         return 4;
     }
+    if window < 1 {
+        return 5;
+    }
     if modulus < window {
         return 5;
     }
     0
 }
 
-// The state in which the regular search ends: an even and an odd row take turns, and the index tells the steps taken. The window plays no part.
+// The state in which the regular search ends: an even and an odd row take turns, and the index tells the steps taken. The window plays no part;
+// the contract has the least that is accepted.
 fn regular_end(modulus: u64, step: u64, start: u64, count: u64) -> State
-    requires { ⌜ Searchable (asked modulus step start count 0) ⌝ }
-    ensures { λ r. ⌜ r ≡ state-after regular (asked modulus step start count 0) 29 ⌝ }
+    requires { ⌜ Accepted (asked modulus step start count 1) ⌝ }
+    ensures { λ r. ⌜ r ≡ state-after regular (asked modulus step start count 1) 29 ⌝ }
 {
     let mut state = first(modulus, step, start, count);
     if state.done {
@@ -145,8 +149,8 @@ fn regular_end(modulus: u64, step: u64, start: u64, count: u64) -> State
 
 // The same for the fine search.
 fn fine_end(modulus: u64, step: u64, start: u64, count: u64) -> State
-    requires { ⌜ Searchable (asked modulus step start count 0) ⌝ }
-    ensures { λ r. ⌜ r ≡ state-after fine (asked modulus step start count 0) 29 ⌝ }
+    requires { ⌜ Accepted (asked modulus step start count 1) ⌝ }
+    ensures { λ r. ⌜ r ≡ state-after fine (asked modulus step start count 1) 29 ⌝ }
 {
     let mut state = first(modulus, step, start, count);
     if state.done {

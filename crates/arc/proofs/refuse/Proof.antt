@@ -4,30 +4,26 @@ use native.Mathlib.Omega.{arith}
 use borrow.Author.Needs.{needs}
 use lib.IntN.{natAbs}
 use mir.Facts.{toZ-ofZ}
-use mir.Syntax.{w64}
-use mir.Val.{SFits}
 use Rattle.arc.proofs.Refusals as laws
 use Rattle.arc.proofs.refuse.Statement.{statement}
 use Rattle.arc.proofs.refuse.Tie as tie
 
 -- the size of the curve
-size-is : (c : tie.After-magnitude) → c .magnitude .result ≡ natAbs (c .before .before .before .before .args .arc .curve)
-size-is c =
-    let fits : SFits w64 (c .before .before .before .before .args .arc .curve) = record { sfits = c .before .struct-told .given .1 .1 .1 .0 .1 } in
-    c .magnitude .ensures ∙ ap natAbs (toZ-ofZ fits)
+size-is : (c : tie.After-magnitude) → c .magnitude .result ≡ natAbs (c .before .before .before .args .curve)
+size-is c = c .magnitude .ensures ∙ ap natAbs (toZ-ofZ (c .before .before .before .fits .curve))
 
 as-segment : tie.Need-returns
-as-segment c = laws.as-segment (c .before .before .args .arc) (c .before .refuse .ensures) (c .if1 .taken)
+as-segment c = laws.as-segment _ (c .before .refuse .ensures) (c .if1 .taken)
 
 curve-large : tie.Need-returns-2
 curve-large c =
-    let at-else = c .before .before .before in
-    laws.curve-large (at-else .before .before .args .arc) (at-else .before .refuse .ensures) (at-else .if1 .left) (omega (arith, c .if2 .taken, size-is (c .before)))
+    let at-else = c .before .before in
+    laws.curve-large _ (at-else .before .refuse .ensures) (at-else .if1 .left) (omega (arith, c .if2 .taken, size-is (c .before)))
 
 within : tie.Need-returns-3
 within c =
-    let at-else = c .before .before .before in
-    laws.within (at-else .before .before .args .arc) (at-else .before .refuse .ensures) (at-else .if1 .left) (omega (arith, c .if2 .left, size-is (c .before)))
+    let at-else = c .before .before in
+    laws.within _ (at-else .before .refuse .ensures) (at-else .if1 .left) (omega (arith, c .if2 .left, size-is (c .before)))
 
 pub refuse-spec : {M : Type 1} → statement M
 refuse-spec = tie.close (tie.spec (λ c κs. search needs) as-segment (λ c κs. search needs) curve-large within)

@@ -3,16 +3,16 @@ use mathlib.Core.Path.{sym, _∙_}
 use borrow.Author.Needs.{needs}
 use Rattle.parabola.specs.Parabola.{In-range}
 use Rattle.arc.specs.Arc.{parabola}
-use Rattle.arc.proofs.Refusals.{accepted}
+use Rattle.arc.proofs.Refusals.{told-within, told-outside}
 use Rattle.arc.proofs.Coverings.{regular-unrefused, regular-verdict, never-cleared, verdict-within}
 use Rattle.arc.proofs.regular_verdict.Statement.{statement}
 use Rattle.arc.proofs.regular_verdict.Tie as tie
 
 range : (c : tie.Else1) → In-range (parabola (c .before .before .args .arc))
-range c = accepted _ .0 (sym (c .before .refuse .ensures) ∙ c .if1 .left)
+range c = told-within _ (c .before .is-within .ensures) (c .if1 .left)
 
 outside : tie.Need-returns
-outside c = never-cleared _ _ (c .before .refuse .ensures) (c .if1 .taken)
+outside c = never-cleared _ _ (told-outside _ (c .before .is-within .ensures) (c .if1 .taken))
 
 refused : tie.Need-returns-2
 refused c =

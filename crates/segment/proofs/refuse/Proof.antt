@@ -34,13 +34,18 @@ count-high c =
     let h = held (c .before .before .before) in
     unfold refusal in sym (refused (checks _) (inr (h .0, inr (h .1, inr (omega arith, inl (refl, omega arith))))))
 
-window-high : tie.Need-returns-5
-window-high c =
+window-low : tie.Need-returns-5
+window-low c =
     let h = held (c .before .before .before .before) in
     unfold refusal in sym (refused (checks _) (inr (h .0, inr (h .1, inr (omega arith, inr (omega arith, inl (refl, omega arith)))))))
 
-within : tie.Need-returns-6
-within c = unfold refusal in let h = held (c .before .before .before .before) in sym (accepted (checks _) (omega arith))
+window-high : tie.Need-returns-6
+window-high c =
+    let h = held (c .before .before .before .before .before) in
+    unfold refusal in sym (refused (checks _) (inr (h .0, inr (h .1, inr (omega arith, inr (omega arith, inl (refl, omega arith)))))))
+
+within : tie.Need-returns-7
+within c = unfold refusal in let h = held (c .before .before .before .before .before) in sym (accepted (checks _) (omega arith))
 
 pub refuse-spec : {M : Type 1} → statement M
-refuse-spec = tie.close (tie.spec (λ c κs. search needs) as-expansion start-high count-low count-high window-high within)
+refuse-spec = tie.close (tie.spec (λ c κs. search needs) as-expansion start-high count-low count-high window-low window-high within)

@@ -14,7 +14,7 @@ use Rattle.segment.proofs.regular_end.Statement.{statement}
 use Rattle.segment.proofs.regular_end.Tie as tie
 
 abbrev Inv-loop : tie.InvT-loop
-Inv-loop modulus step start count _ state = At regular (asked modulus step start count 0) false state
+Inv-loop modulus step start count _ state = At regular (asked modulus step start count 1) false state
 
 abbrev μ-loop : tie.MeasureT-loop
 μ-loop _ _ _ _ _ state = 29 - state .index
@@ -33,7 +33,7 @@ done-after-even c = is-done (c .before .before .before .before .loop .inv) (unfo
 
 -- the search runs on after the even row
 at-odd : (c : tie.Else3 Inv-loop μ-loop) → let a = c .before .before .before .before .before .before .before .args in
-    At regular (asked (a .modulus) (a .step) (a .start) (a .count) 0) true (c .before .regular-even .result)
+    At regular (asked (a .modulus) (a .step) (a .start) (a .count) 1) true (c .before .regular-even .result)
 at-odd c = goes-on (c .before .before .before .before .loop .inv) (unfold next in c .before .regular-even .ensures) (c .if3 .left)
 
 odd-requires : tie.Need-regular-odd-requires Inv-loop μ-loop

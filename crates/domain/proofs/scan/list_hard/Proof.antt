@@ -1,7 +1,7 @@
 -- `domain::scan::list_hard` meets its contract.
 -- The loop's invariant: the hard arguments below x are written, and the next one goes to the place `at`. The measure is the number of arguments
 -- from x on. Assumes nothing.
-use mathlib.Core.Path.{_≡_, ap}
+use mathlib.Core.Path.{_≡_, refl, ap}
 use mathlib.Core.Logic.{⊎-elim}
 use Prim.Native.Nat.{ℕ, _-_, _+_, _<_}
 use native.Mathlib.Omega.{arith}
@@ -14,7 +14,7 @@ use Rattle.domain.proofs.scan.list_hard.Statement.{statement}
 use Rattle.domain.proofs.scan.list_hard.Tie as tie
 
 abbrev Inv-loop : tie.InvT-loop
-Inv-loop arc begin _ list₀ place second _ end _ _ list point at x = Listing (parabola arc) second begin place list₀ list point at x
+Inv-loop arc begin _ list₀ place second _ end _ _ list point at x = Listing (parabola arc) second (arc .highest) begin place list₀ list point at x
 
 abbrev μ-loop : tie.MeasureT-loop
 μ-loop arc begin _ _ _ _ _ _ _ _ _ _ _ x = begin + arc .count - x
@@ -28,7 +28,7 @@ room : (c : tie.In-loop Inv-loop μ-loop) → c .before .loop .at < length (c .b
 room c = omega (arith, c .loop-test .taken, c .before .before .before .before .before .pre)
 
 loop-holds : tie.Need-loop-holds Inv-loop μ-loop
-loop-holds c = list-first (at-first (c .before .before .before .pre .0) (c .remainder .ensures))
+loop-holds c = list-first (at-first (c .before .before .before .pre .0) (c .remainder .ensures) refl)
 
 slice-write-list : tie.Need-slice-write-list Inv-loop μ-loop
 slice-write-list c =
