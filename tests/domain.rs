@@ -588,13 +588,13 @@ fn every_set_of_scan_refusals() -> Result<Tally, String> {
     }
 }
 
-/// Document 01's example P9, its refusals that concern scans, as 02 leaves them, and 7.
+/// Document 01's example P9 and a scan with a window of M, 01's refusals that concern scans, as 02 leaves them, and 7.
 fn settled_scans() -> Result<Tally, String> {
     let examples: [([u64; 5], &[u32]); 3] =
         [([45, 14, 44, 16, 6], &[3, 6]), ([45, 14, 44, 16, 3], &[3]), ([45, 14, 44, 3, 45], &[0, 1, 2])];
     for (fields, list) in examples {
         let shown = Shown { marks: &[], numbers: &[list.len() as u64] };
-        check(&segment(fields), list, &shown).map_err(|why| format!("P9: {why}"))?;
+        check(&segment(fields), list, &shown).map_err(|why| format!("settled: {why}"))?;
     }
     let refusals = [
         ([1, 0, 0, 1, 1], 1, 1),

@@ -402,7 +402,7 @@ static void check_domain(const char *example, struct domain d, const struct answ
 
 /*
  * What the documents' examples leave open. With curve 0 the covering segment has the domain's values, raised by w - 1, as its residues:
- * for J's numbers and window 1 it is P2's segment, and for window M it is possible. So it is for a part with one argument. With value 1
+ * for J's numbers and window 1 it is P2's segment, and for window M it is possible, as it is for each of its parts. With value 1
  * and slope 0 the values are 1, 1, 2, 4, 7, .. for curve 1 and 1, 1, 0, 43, 40, .. for curve -1; with count 8 and window 1 the covering
  * segment has step 0, window 1 + 28, and start 1 + 28 for curve 1 but 1 for curve -1. With curve 1048576, which is 31 modulo 45, or with
  * -1048576 its window is M; with value 14 and slope 0 the values are 14, 14, 0, 17, 20, 9, 29, 35 or 14, 14, 28, 11, 8, 19, 44, 38.

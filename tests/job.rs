@@ -289,7 +289,7 @@ fn of_conditions(set: u32, large: bool) -> Domain {
             (_, 0) => 0,
             (_, _) => MOST + 1,
         },
-        // Without a window nothing is hard.
+        // With a window of 0 nothing is hard, so that 7 cannot apply beside it.
         window: match (applies(5), applies(7)) {
             (0, 0) => 1,
             (0, _) => modulus,

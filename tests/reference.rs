@@ -273,7 +273,7 @@ impl Domain {
         curve.abs() * (count * (count - 1) / 2)
     }
 
-    /// The covering segment, by 02: the start gains w - 1, and the window is 2w - 1 + D.
+    /// The covering segment, by 02: the start gains w - 1, and the window is the smaller of M and 2w - 1 + D.
     pub fn covering(&self) -> Segment {
         let (deviation, w) = (self.deviation(), self.window as i128);
         let start = if self.curve >= 0 { self.value as i128 + deviation } else { self.value as i128 };

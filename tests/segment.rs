@@ -1,4 +1,4 @@
-//! Both searches of a segment against a reference written from document 01 alone, which counts residues: every small modulus,
+//! Both searches of a segment against a reference written from documents 01 and 02 alone, which counts residues: every small modulus,
 //! random and extreme segments, refusals, the settled examples, with canaries around the caller's memory.
 
 mod c_api;
@@ -109,7 +109,7 @@ impl fmt::Display for Tally {
     }
 }
 
-/// Compares both searches with the reference at the segment's window and at those where a verdict changes; a window of 0 is refused.
+/// Compares both searches with the reference at the segment's window, at 1 and the modulus, and where a verdict changes; a window of 0 is refused.
 fn compare(segment: &Segment, tally: &mut Tally) -> Result<(), String> {
     if segment.refusal() != 0 {
         tally.refused += 1;
@@ -413,7 +413,10 @@ fn smaller_stays_clear() -> Result<String, String> {
             }
         }
     }
-    Ok(format!("20000 segments, {smaller} pairs of a count and a window"))
+    match smaller {
+        110_000.. => Ok(format!("20000 segments, {smaller} pairs of a count and a window")),
+        few => Err(format!("only {few} pairs of a count and a window")),
+    }
 }
 
 /// The table of 14/45 in 000, by hand from 01's definitions and without its row (4, 0): i, t, q(i-1,t), q(i), theta(i-1,t),

@@ -1,4 +1,4 @@
--- What is promised of arcs. `Promised`, at the end, is all of it; proofs/Promises.antt proves it. Assumes nothing: these are statements.
+-- What is promised of parabolas within the bounds of the code, and of arcs. `Promised`, at the end, is all of it; proofs/Promises.antt proves it. Assumes nothing: these are statements.
 use mathlib.Core.Path.{_≡_}
 use mathlib.Core.List.{List, [], _∷_}
 use mathlib.Core.Logic.{_↔_}

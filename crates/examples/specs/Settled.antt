@@ -95,8 +95,8 @@ pub record Fine-shows (M a b N count index part distance argument : ℕ) : Type 
 abbrev pub Example-6 : Type 0
 Example-6 = Fine-shows 45 15 44 10 3 0 2 14 2
 
--- M 45, a 44, b 0, N 3: regular n 45, index 2; fine n 3, label (1, 1). 01 does not tell that both show distance 0 at 0, so that no
--- accepted window is clear
+-- M 45, a 44, b 0, N 3: regular n 45, index 2; fine n 3, label (1, 1). Both show distance 0 at 0, which 01 does not tell: every
+-- accepted window is possible
 pub record Example-7 : Type 0 where
   pub by-regular : Regular-shows 45 44 0 3 45 2 0 0
   pub by-fine : Fine-shows 45 44 0 3 3 1 1 0 0

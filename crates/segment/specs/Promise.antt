@@ -138,7 +138,7 @@ pub record Verdicts-correct (k : Search) (M a b N w : ℕ) : Type 0 where
 abbrev pub for-segment : (Segment → Type 0) → (M a b N w : ℕ) → Type 0
 for-segment P M a b N w = P (record { unit = M; step = a; start = b; count = N; window = w })
 
--- a segment with a window of 0 has no hard argument: where one was cleared before document 02's 2.3, that said the truth. Now neither search clears it, and both refuse it by 5
+-- a segment with a window of 0 has no hard argument: where one was cleared before document 02's 2.3, that was right. Now neither search clears it, and both refuse it by 5
 -- where nothing that is asked before the window does
 pub record Without-window (M a b N : ℕ) : Type 0 where
   pub none-hard : (x : ℕ) → for-segment (λ s. Hard s x → ⊥) M a b N 0
@@ -152,7 +152,7 @@ pub record Promised : Type 0 where
   -- the segment of a call has the call's numbers
   pub asked-is : (M a b N w : ℕ) → for-segment (λ s. asked M a b N w ≡ s) M a b N w
   pub accepted : (M a b N w : ℕ) → for-segment (λ s. (refusal s ≡ 0) ↔ Accepted s) M a b N w
-  -- a segment is accepted exactly where its five numbers are within 01's bounds
+  -- a segment is accepted exactly where its five numbers are within 01's bounds, as 02 changes them
   pub accepted-is : (M a b N w : ℕ)
       → for-segment Accepted M a b N w
       ↔ ((2 ≤ M) × (M ≤ 2 ^ 62) × (a < M) × (b < M) × (1 ≤ N) × (N ≤ 1048576) × (1 ≤ w) × (w ≤ M))
@@ -162,7 +162,7 @@ pub record Promised : Type 0 where
   pub regular-refused : (M a b N w n : ℕ) → for-segment (λ s. (regular-answer M a b N w ≡ regular-variants.Refused n) ↔ Refused-for s n) M a b N w
   pub fine-refused : (M a b N w n : ℕ) → for-segment (λ s. (fine-answer M a b N w ≡ fine-variants.Refused n) ↔ Refused-for s n) M a b N w
   pub steps : (k : Search) (s : Segment) → Accepted s → Steps-correct k s
-  -- the step of each search is the one that the functions of the code take
+  -- the step of each search is `regular-next` or `fine-next`, which the contracts of the code's steps cite
   pub step-of : (odd : Bool) (N : ℕ) (t : State) → (next regular odd N t ≡ regular-next odd N t) × (next fine odd N t ≡ fine-next odd N t)
   pub smaller : Smaller-cleared
   pub no-more : Fine-reaches-no-more
