@@ -1,6 +1,6 @@
 -- What the code makes of the terms of a parabola is what the definitions say. Assumes nothing.
 use mathlib.Core.Path.{_≡_, refl, _∙_, ap}
-use Prim.Native.Nat.{ℕ, _+_, _*_, _%_, _≤_, _<_}
+use Prim.Native.Nat.{ℕ, _+_, _*_, _%_, _≤_}
 use native.Mathlib.Nat.{mul-one, mod-lt, mod-eq-of-lt}
 use native.Mathlib.Omega.{arith}
 use lib.Dec.{leb·zero}
@@ -12,21 +12,18 @@ use Rattle.numbers.specs.Integers.{_modulo_}
 use Rattle.numbers.proofs.Congruences.{Congruent, equals, chain, plus, remainder}
 use Rattle.numbers.proofs.Integers.{gain, loss, product, mod-congruent}
 use Rattle.parabola.specs.Parabola.{Parabola, In-range, triangle, value-at, slope-at, spread, start-over, covering-start}
-use Rattle.parabola.proofs.Laws.{triangle-most, arc-most, rise-most, value-is, slope-is}
+use Rattle.parabola.proofs.Laws.{positive, triangle-most, arc-most, rise-most, value-is, slope-is}
 use Rattle.numbers.proofs.Signed.{read, product-fits, product-read, curve-read}
 
 module _ {p : Parabola} (range : In-range p) where
-  pub positive : 0 < p .unit
-  positive = omega (arith, range .value-below)
-
   bent : (y : ℕ) → Congruent (p .unit) ((p .curve *ℤ pos y) modulo p .unit + loss (p .curve) * y) (gain (p .curve) * y)
-  bent y = mod-congruent positive (product (p .curve) y)
+  bent y = mod-congruent (positive range) (product (p .curve) y)
 
   -- V(x)
   pub value-of-terms : (x : ℕ)
       → ((p .value + p .slope * x % p .unit) % p .unit + (p .curve *ℤ pos (triangle x)) modulo p .unit) % p .unit ≡ value-at p x
   value-of-terms x =
-      value-is p positive x (mod-lt _ positive)
+      value-is p (positive range) x (mod-lt _ (positive range))
       (chain (plus (remainder _ (p .unit)) (equals {a = loss (p .curve) * triangle x} refl))
       (chain (equals (omega arith))
       (plus (chain (remainder (p .value + p .slope * x % p .unit) (p .unit)) (plus (equals {a = p .value} refl) (remainder (p .slope * x) (p .unit))))
@@ -35,7 +32,7 @@ module _ {p : Parabola} (range : In-range p) where
   -- c1 + s·x
   pub slope-of-terms : (x : ℕ) → (p .slope + (p .curve *ℤ pos x) modulo p .unit) % p .unit ≡ slope-at p x
   slope-of-terms x =
-      slope-is p positive x (mod-lt _ positive)
+      slope-is p (positive range) x (mod-lt _ (positive range))
       (chain (plus (remainder _ (p .unit)) (equals {a = loss (p .curve) * x} refl))
       (chain (equals (omega arith)) (plus (equals {a = p .slope} refl) (bent x))))
 

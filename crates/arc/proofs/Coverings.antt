@@ -22,6 +22,7 @@ use Rattle.segment.specs.declared.FineAnswer.the-variants as fine-variants
 use Rattle.segment.proofs.Laws.{regular-shows, fine-shows}
 use Rattle.segment.proofs.Promises as segment
 use Rattle.parabola.specs.Parabola.{Parabola, In-range, value-at, spread, covering-step, start-over, covering-start, covering-window, covering}
+use Rattle.parabola.proofs.Laws.{positive}
 use Rattle.parabola.proofs.Promises as parabola-promises
 use Rattle.arc.specs.Arc.{parabola, refusal, verdict-with, arc-verdict, covering-numbers}
 use Rattle.arc.specs.declared.Arc.{Arc}
@@ -29,21 +30,18 @@ use Rattle.arc.specs.declared.covering.Covering.{Covering}
 use Rattle.arc.proofs.Refusals.{accepted}
 
 module _ {p : Parabola} (range : In-range p) where
-  positive : 0 < p .unit
-  positive = omega (arith, range .value-below)
-
   pub covering-accepted : Accepted (covering p)
   unfolding covering-step covering-start covering-window
-  covering-accepted = omega (arith, mod-lt (p .unit - p .slope) positive, by (p .curve), range)
+  covering-accepted = omega (arith, mod-lt (p .unit - p .slope) (positive range), by (p .curve), range)
     where
       by : (z : ℤ) → start-over z (p .unit) (p .value) (spread p) < p .unit
-      by (pos n) = unfold start-over in mod-lt (p .value + spread p) positive
+      by (pos n) = unfold start-over in mod-lt (p .value + spread p) (positive range)
       by (negsuc n) = unfold start-over in range .value-below
 
   -- a search that clears the covering segment leaves no value below the window
   pub cleared : (k : Search) → verdict k (covering p) ≡ Clear → (x : ℕ) → x < p .count → p .window ≤ value-at p x
   cleared k e x h =
-      let c = parabola-promises.promised .coverings p positive (range .slope-below) in
+      let c = parabola-promises.promised .coverings p (positive range) (range .slope-below) in
       let r = segment.promised .verdicts k _ _ _ _ _ covering-accepted .none-hard e x h in
       by-cases (decLe (p .window) (value-at p x)) (λ l. l) (λ l. absurd (omega (arith, r, c .covers x h (omega arith))))
 

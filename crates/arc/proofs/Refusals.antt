@@ -43,8 +43,8 @@ module _ (p : Parabola) {n : ℕ} (e : n ≡ segment.refusal (line-of p)) where
 -- ---- from the test of an arc
 
 module _ (p : Parabola) {test : Bool} (e : test ≡ eqb (refusal p) 0) where
-  pub told-within : not test ≡ false → In-range p
-  told-within f = accepted p .0 (eqb-true (refusal p) 0 (sym e ∙ not-false test f))
+  pub test-passed : not test ≡ false → In-range p
+  test-passed f = accepted p .0 (eqb-true (refusal p) 0 (sym e ∙ not-false test f))
 
-  pub told-outside : not test ≡ true → refusal p ≡ 0 → ⊥
-  told-outside f = eqb-false (refusal p) 0 (sym e ∙ not-true test f)
+  pub test-failed : not test ≡ true → refusal p ≡ 0 → ⊥
+  test-failed f = eqb-false (refusal p) 0 (sym e ∙ not-true test f)

@@ -34,7 +34,7 @@ use Rattle.domain.specs.declared.DomainAnswer.the-variants as domain-var
 use Rattle.domain.specs.declared.ScanAnswer.{ScanAnswer}
 use Rattle.domain.specs.declared.ScanAnswer.the-variants as scan-variants
 use Rattle.domain.specs.declared.phases.Report.{Report}
-use Rattle.domain.proofs.Parts.{none-listed}
+use Rattle.domain.proofs.Parts.{none-listed, verdict-is}
 
 -- ---- which domains are accepted
 
@@ -134,8 +134,7 @@ module _ (d : Domain) (old-marks old : List ℕ) where
     unfolding domain-answer marks-after list-after too-few answer-with unless-refused marks-by overwrite-front
     domain-cleared {b} e c =
         let r : In-range (parabola b) = rw e (searched-in-range d a) in
-        let v : verdict regular (covering-of d) ≡ Clear
-        = ap (λ (p : Parabola). verdict regular (covering p)) (sym e) ∙ sym (arc-promises.promised .arcs b .verdict-is regular r) ∙ c in
+        let v : verdict regular (covering-of d) ≡ Clear = ap (λ (p : Parabola). verdict regular (covering p)) (sym e) ∙ verdict-is b r regular c in
         let nothing : hard-arguments d ≡ [] = none-listed regular (searched-in-range d a) v in
         rw (number-is, accepted (room (hard-arguments d) (length old)) (omega (arith, ap length nothing), tt), v, nothing) (refl, (refl, refl))
 
@@ -144,7 +143,7 @@ module _ (d : Domain) (old-marks old : List ℕ) where
         → In-range (parabola b) × (verdict regular (covering (parabola b)) ≡ Possible)
     searched-requires {b} e c =
         let r : In-range (parabola b) = rw e (searched-in-range d a) in
-        (r, sym (arc-promises.promised .arcs b .verdict-is regular r) ∙ c)
+        (r, verdict-is b r regular c)
 
     -- phases 2 and 3 search it
     pub domain-searched : {p : Parabola} → p ≡ centred-of d → {answer : DomainAnswer} {new-marks new : List ℕ}

@@ -14,7 +14,7 @@ use Rattle.geometry.specs.Segment as geometry
 use Rattle.geometry.proofs.Laws.{residue-lt, residue-congruent}
 use Rattle.geometry.proofs.Promises as geometry-promises
 use Rattle.parabola.specs.Parabola.{Hard, triangle, value-at, centred}
-use Rattle.parabola.proofs.Laws.{triangle-twice, value-congruent, value-is}
+use Rattle.parabola.proofs.Laws.{positive, triangle-twice, value-congruent, value-is}
 use Rattle.parabola.proofs.Promises.{promised}
 use Rattle.domain.specs.Domain.{parabola-of, centred-of, Accepted}
 use Rattle.domain.specs.Promise.{Hard-in-numbers, Near-a-multiple, Hard-in-segment}
@@ -62,7 +62,7 @@ module _ (d : Domain) (x : ℕ) where
   -- it is hard by the test of the parabola that the phases search
   pub hard-by-numbers : Accepted d → Hard (centred-of d) x ↔ Hard-in-numbers d x
   hard-by-numbers a =
-      let values = by-values (omega (arith, a .value-below)) in
+      let values = by-values (positive a) in
       let hard = promised .centred-correct (parabola-of d) a .hard x in
       unfold centred in (λ h. values .0 (h .0, hard .0 (h .1)), λ h. let v = values .1 h in (v .0, hard .1 (v .1)))
 

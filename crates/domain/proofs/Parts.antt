@@ -92,15 +92,16 @@ unfolding part-report continued
 empty-part p range i e = rw (mark-empty (verdict fine (covering (part p i))) e, promised .parts p range .nothing-listed i e)
 
 module _ (a : Arc) (range : In-range (parabola a)) where
-  verdict-is : {v : Verdict} → arc-verdict fine a ≡ v → verdict fine (covering (parabola a)) ≡ v
-  verdict-is e = sym (arc.promised .arcs a .verdict-is fine range) ∙ e
+  -- the search of the covering segment has the arc's verdict
+  pub verdict-is : (k : Search) {v : Verdict} → arc-verdict k a ≡ v → verdict k (covering (parabola a)) ≡ v
+  verdict-is k e = sym (arc.promised .arcs a .verdict-is k range) ∙ e
 
   mark-is : {v : Verdict} → arc-verdict fine a ≡ v → mark-with (a .count) (verdict fine (covering (parabola a))) ≡ mark-of v
-  mark-is e = mark-some _ _ (range .count-low) ∙ ap mark-of (verdict-is e)
+  mark-is e = mark-some _ _ (range .count-low) ∙ ap mark-of (verdict-is fine e)
 
   pub clear-part : arc-verdict fine a ≡ Clear → record { mark = 1; hard = 0 } ≡ part-report (parabola a)
   unfolding part-report mark-of
-  clear-part e = rw (mark-is e, none-listed fine range (verdict-is e))
+  clear-part e = rw (mark-is e, none-listed fine range (verdict-is fine e))
 
   pub possible-part : {n : ℕ} → arc-verdict fine a ≡ Possible → n ≡ length (hard-list (parabola a)) → record { mark = 2; hard = n } ≡ part-report (parabola a)
   unfolding part-report mark-of

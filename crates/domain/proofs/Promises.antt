@@ -23,6 +23,7 @@ use Rattle.segment.proofs.Promises as segment-promises
 use Rattle.parabola.specs.Parabola.{Parabola, triangle, value-at, slope-at, hard-list, centred, covering, continued, part-count, part}
 use Rattle.parabola.specs.Promise.{Covering-both-correct}
 use Rattle.parabola.proofs.Promises as parabola
+use Rattle.arc.proofs.Promises as arc
 use Rattle.domain.specs.Domain.{parabola-of, centred-of, hard-arguments, covering-of, part-covering, Accepted}
 use Rattle.domain.specs.Scan.{next-point}
 use Rattle.domain.specs.Answer.{domain-checks, domain-number, answer-with, domain-answer, marks-of, marks-after, list-after, domain-refusal, domain-first, domain-count, scan-checks, scan-number, scan-answer-with, scan-answer, scan-list-after, scan-refusal, scan-count}
@@ -33,7 +34,7 @@ use Rattle.domain.specs.declared.ScanAnswer.the-variants as scan-variant
 use Rattle.domain.proofs.Answers.{searched-in-range, number-accepts, number-as-segment, scan-accepts}
 use Rattle.domain.proofs.Numbers.{hard-by-numbers, nearest, hard-in-segment}
 use Rattle.domain.proofs.Parts.{none-listed}
-use Rattle.domain.proofs.Verdicts.{covering-accepted, searched-parts, part-in-range, phases-correct, marks-correct, marks-as-before}
+use Rattle.domain.proofs.Verdicts.{searched-parts, part-in-range, phases-correct, marks-correct, marks-as-before}
 
 parabola-correct : (d : Domain) → Parabola-correct d
 unfolding value-at triangle
@@ -63,10 +64,10 @@ coverings-correct d a =
     = λ i some. rw (whole .parts i) (parabola.promised .centred-correct (part (parabola-of d) i) (parts .in-range-of i some) .covering-both) in
     record {
       whole = whole .covering-both .numbers;
-      whole-accepted = covering-accepted (whole .in-range);
+      whole-accepted = arc.promised .searched _ (whole .in-range) .covering-accepted;
       whole-covers = whole .covering-both;
       of-part = λ i h n l e f some. unfold continued value-at slope-at triangle in rw (e, f) (covers i (omega (arith, f, some)) .numbers);
-      part-accepted = λ i l some. covering-accepted (part-in-range a i some);
+      part-accepted = λ i l some. arc.promised .searched _ (part-in-range a i some) .covering-accepted;
       part-covers = λ i l some. covers i some;
     }
 

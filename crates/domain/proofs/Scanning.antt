@@ -18,6 +18,7 @@ use Rattle.numbers.proofs.Selections.{test-number, one-at-most, filter-from, fr
 use Rattle.numbers.proofs.Buffers.{Writing, begin as begin-writing, restate, write-one, done}
 use Rattle.parabola.specs.Parabola.{Parabola, In-range, value-at, slope-at, second-difference, is-hard, hard-list}
 use Rattle.parabola.specs.Promise.{Values-correct}
+use Rattle.parabola.proofs.Laws.{positive}
 use Rattle.parabola.proofs.Promises.{promised}
 use Rattle.domain.specs.Scan.{Point-below, next-point}
 use Rattle.domain.specs.declared.scan.Point.{Point}
@@ -33,7 +34,7 @@ pub record At (p : Parabola) (second highest x : ℕ) (t : Point) : Type 0 where
   pub slope-is : t .slope ≡ slope-at p x
 
 values : {p : Parabola} → In-range p → Values-correct p
-values {p} range = promised .values p (omega (arith, range .value-below))
+values {p} range = promised .values p (positive range)
 
 -- the curve is read as it is
 pub at-first : {p : Parabola} {second highest : ℕ} → In-range p → second ≡ read (p .curve) modulo p .unit → suc highest ≡ p .window

@@ -10,14 +10,13 @@ use Rattle.numbers.proofs.Equivalences.{through}
 use Rattle.numbers.proofs.Selections.{tabulate-length, tabulate-at}
 use Rattle.expansion.specs.Reached.{Search}
 use Rattle.expansion.specs.Reached.Search.{regular, fine}
-use Rattle.segment.specs.Accepted.{Accepted as Accepted-segment}
 use Rattle.segment.specs.Search.{verdict}
 use Rattle.segment.specs.Promise.{Verdicts-correct}
 use Rattle.segment.specs.declared.Verdict.{Verdict}
 use Rattle.segment.specs.declared.Verdict.the-variants.{Clear, Possible}
 use Rattle.segment.proofs.Laws.{apart}
 use Rattle.segment.proofs.Promises as segment
-use Rattle.parabola.specs.Parabola.{Parabola, In-range, value-at, Hard, centred, covering, continued, part-start, part-count, part}
+use Rattle.parabola.specs.Parabola.{Parabola, In-range, value-at, centred, covering, continued, part-start, part-count, part}
 use Rattle.parabola.specs.Promise.{Parts-correct}
 use Rattle.parabola.proofs.Promises as parabola
 use Rattle.arc.proofs.Promises as arc
@@ -30,18 +29,10 @@ use Rattle.domain.proofs.Parts.{mark-empty, mark-some}
 use Rattle.domain.proofs.Answers.{searched-in-range}
 use Rattle.domain.proofs.Numbers.{hard-by-numbers}
 
--- the searches accept the covering segment of a parabola within the bounds
-pub covering-accepted : {p : Parabola} → In-range p → Accepted-segment (covering p)
-covering-accepted {p} range = arc.promised .searched p range .covering-accepted
-
--- what they promise of it
+-- what the searches promise of the covering segment of a parabola within the bounds
 verdicts : (k : Search) {p : Parabola} → In-range p
     → Verdicts-correct k (covering p .unit) (covering p .step) (covering p .start) (covering p .count) (covering p .window)
-verdicts k {p} range = segment.promised .verdicts k _ _ _ _ _ (covering-accepted range)
-
--- a search that clears the covering segment leaves no value below the window
-cleared : (k : Search) {p : Parabola} → In-range p → verdict k (covering p) ≡ Clear → (x : ℕ) → Hard p x → ⊥
-cleared k {p} range = arc.promised .searched p range .cleared k
+verdicts k {p} range = segment.promised .verdicts k _ _ _ _ _ (arc.promised .searched p range .covering-accepted)
 
 module _ {d : Domain} (a : Accepted d) where
   -- the parts of the parabola that the phases search
@@ -56,7 +47,7 @@ module _ {d : Domain} (a : Accepted d) where
   unfolding centred
   part-none i some e x l h =
       let y : part-start (d .count) i + (x - part-start (d .count) i) ≡ x = omega (arith, l .0) in
-      cleared fine (part-in-range i some) e (x - part-start (d .count) i) (
+      arc.promised .searched _ (part-in-range i some) .cleared fine e (x - part-start (d .count) i) (
         omega (arith, l .0, l .1, searched-parts .length-of i, parabola.promised .eight-parts (d .count) .next i),
         omega (
           arith,
@@ -72,7 +63,7 @@ module _ {d : Domain} (a : Accepted d) where
       record {
         first-cleared = verdicts regular (searched-in-range d a) .answered;
         first-distance = verdicts regular (searched-in-range d a) .by-distance;
-        first-none = λ e x h. cleared regular (searched-in-range d a) e x (hard-by-numbers d x a .1 h);
+        first-none = λ e x h. arc.promised .searched _ (searched-in-range d a) .cleared regular e x (hard-by-numbers d x a .1 h);
         part-cleared = λ i some. verdicts fine (part-in-range i some) .answered;
         part-distance = λ i some. verdicts fine (part-in-range i some) .by-distance;
         part-none = part-none;

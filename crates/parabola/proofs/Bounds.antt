@@ -1,5 +1,5 @@
--- The products that the code makes of a parabola within its bounds fit a word: D is at most 2^59. Assumes nothing.
-use Prim.Native.Nat.{ℕ, _*_, _≤_}
+-- What the bounds of a parabola give: its unit is not 0, and the products that the code makes fit a word, as D is at most 2^59. Assumes nothing.
+use Prim.Native.Nat.{ℕ, _*_, _≤_, _<_}
 use native.Mathlib.Nat.{mul-le-mul}
 use native.Mathlib.Omega.{arith}
 use lib.IntN.{natAbs}
@@ -13,6 +13,9 @@ pub triangle-most : (x : ℕ) → x ≤ 1048576 → triangle x ≤ 549755813888
 triangle-most x h = omega (arith, triangle-double x, mul-le-mul {n₁ = x} {m₁ = x} {n₂ = 1048576} {m₂ = 1048576} h h)
 
 module _ {p : Parabola} (range : In-range p) where
+  pub positive : 0 < p .unit
+  positive = omega (arith, range .value-below)
+
   pub arc-most : (x : ℕ) → x ≤ 1048576 → natAbs (p .curve) * triangle x ≤ 576460752303423488
   arc-most x h = mul-le-mul (range .size-small) (triangle-most x h)
 

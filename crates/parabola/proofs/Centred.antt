@@ -12,6 +12,7 @@ use Rattle.parabola.specs.Parabola.{Parabola, triangle, value-at, slope-
 use Rattle.parabola.specs.Promise.{Covering-correct, Covering-both-correct, Centred-correct}
 use Rattle.parabola.proofs.Values.{value-congruent, value-is, value-below}
 use Rattle.parabola.proofs.Coverings.{covering-correct}
+use Rattle.parabola.proofs.Bounds.{positive}
 
 -- a number v below M, raised by w - 1 modulo M, is below the smaller of M and 2w - 1 exactly where it is less than w from a multiple of M
 raised-below : (M w v : ℕ) → v < M → w ≤ M → ((v + (w - 1)) % M < min M (2 * w - 1)) ↔ ((v < w) ⊎ (M - v < w))
@@ -22,21 +23,18 @@ raised-below M w v low most =
     (λ l. inr (omega arith), λ n. omega (arith, e)))
 
 module _ (p : Parabola) (range : In-range p) where
-  positive : 0 < p .unit
-  positive = omega (arith, range .value-below)
-
   within : In-range (centred p)
   unfolding centred
-  within = omega (arith, mod-lt (p .value + (p .window - 1)) positive, range)
+  within = let low : centred p .value < p .unit = mod-lt _ (positive range) in omega (arith, low, range)
 
   raised : (x : ℕ) → value-at (centred p) x ≡ (value-at p x + (p .window - 1)) % p .unit
   unfolding centred
   raised x =
       sym
-      (value-is (centred p) positive x (mod-lt (value-at p x + (p .window - 1)) positive)
+      (value-is (centred p) (positive range) x (mod-lt (value-at p x + (p .window - 1)) (positive range))
       (chain (plus (remainder (value-at p x + (p .window - 1)) (p .unit)) (equals {a = loss (p .curve) * triangle x} refl))
       (chain (equals (omega arith))
-      (chain (plus (value-congruent p positive x) (equals {a = p .window - 1} refl))
+      (chain (plus (value-congruent p (positive range) x) (equals {a = p .window - 1} refl))
       (chain (equals {b = p .value + (p .window - 1) + (p .slope * x + gain (p .curve) * triangle x)} (omega arith))
       (chain (plus (flip (remainder (p .value + (p .window - 1)) (p .unit))) (equals {a = p .slope * x + gain (p .curve) * triangle x} refl))
       (equals (omega arith))))))))
@@ -48,7 +46,7 @@ module _ (p : Parabola) (range : In-range p) where
   hard : (x : ℕ) → (value-at (centred p) x < centred p .window) ↔ ((value-at p x < p .window) ⊎ (p .unit - value-at p x < p .window))
   unfolding centred
   hard x =
-      let r = raised-below (p .unit) (p .window) (value-at p x) (value-below p positive x) (range .window-high) in
+      let r = raised-below (p .unit) (p .window) (value-at p x) (value-below p (positive range) x) (range .window-high) in
       (λ h. r .0 (omega (arith, h, raised x)), λ n. omega (arith, r .1 n, raised x))
 
   parts : (i : ℕ) → part (centred p) i ≡ centred (part p i)
@@ -66,7 +64,7 @@ module _ (p : Parabola) (range : In-range p) where
   -- ---- the covering segment
 
   covers-itself : Covering-correct p
-  covers-itself = covering-correct p positive (range .slope-below)
+  covers-itself = covering-correct p (positive range) (range .slope-below)
 
   covers-centred : Covering-correct (centred p)
   covers-centred = covering-correct (centred p) (omega (arith, within .value-below)) (within .slope-below)

@@ -2,7 +2,7 @@
 -- what they list is what it lists. Assumes nothing.
 use mathlib.Core.Path.{_≡_, refl, _∙_, ap, ap₂}
 use mathlib.Core.List.{List, [], map}
-use Prim.Native.Nat.{ℕ, suc, _+_, _-_, _≤_, _<_}
+use Prim.Native.Nat.{ℕ, suc, _+_, _-_, _≤_}
 use native.Mathlib.Nat.{add-zero}
 use native.Mathlib.Omega.{arith}
 use Rattle.numbers.specs.Lists.{filter-range, joined}
@@ -11,6 +11,7 @@ use Rattle.numbers.proofs.Promises as numbers
 use Rattle.numbers.proofs.Selections.{filter-none, filter-shifted}
 use Rattle.parabola.specs.Parabola.{Parabola, is-hard, hard-list, continued, part-start, part-count, part, In-range}
 use Rattle.parabola.specs.Promise.{Eight-parts-correct, Parts-correct}
+use Rattle.parabola.proofs.Bounds.{positive}
 use Rattle.parabola.proofs.Values.{value-below, slope-below, value-continues, slope-continues}
 
 -- ---- where parts begin and how long they are
@@ -50,15 +51,12 @@ module _ (N : ℕ) where
 -- ---- parts of a parabola
 
 module _ (p : Parabola) (range : In-range p) where
-  positive : 0 < p .unit
-  positive = omega (arith, range .value-below)
-
   abbrev start : (i : ℕ) → ℕ
   start i = part-start (p .count) i
 
   in-range-of : (i : ℕ) → 1 ≤ part-count (p .count) i → In-range (part p i)
   unfolding continued part-count
-  in-range-of i some = omega (arith, slope-below p positive (start i), value-below p positive (start i), range)
+  in-range-of i some = omega (arith, slope-below p (positive range) (start i), value-below p (positive range) (start i), range)
 
   -- ---- what the parts list
 
@@ -69,7 +67,7 @@ module _ (p : Parabola) (range : In-range p) where
       ∙ ap₂ (filter-range (is-hard p)) (omega (arith, next (p .count) i)) (add-zero (start i))
     where
       same-test : (y : ℕ) → is-hard (part p i) y ≡ is-hard p (start i + y)
-      same-test y = unfold is-hard continued in rw (value-continues p positive (start i) (part-count (p .count) i) y)
+      same-test y = unfold is-hard continued in rw (value-continues p (positive range) (start i) (part-count (p .count) i) y)
 
   lists : joined (λ i. map (λ (y : ℕ). start i + y) (hard-list (part p i))) 8 0 ≡ hard-list p
   unfolding hard-list
@@ -88,8 +86,8 @@ module _ (p : Parabola) (range : In-range p) where
         begins = λ i. unfold continued in (refl, refl);
         same = λ i. unfold continued in (refl, refl, refl);
         in-range-of = in-range-of;
-        continues = λ i. value-continues p positive (start i) (part-count (p .count) i);
-        slope = λ i. slope-continues p positive (start i) (part-count (p .count) i);
+        continues = λ i. value-continues p (positive range) (start i) (part-count (p .count) i);
+        slope = λ i. slope-continues p (positive range) (start i) (part-count (p .count) i);
         lists = lists;
         nothing-listed = nothing-listed;
       }

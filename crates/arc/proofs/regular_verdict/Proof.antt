@@ -3,16 +3,16 @@ use mathlib.Core.Path.{sym, _∙_}
 use borrow.Author.Needs.{needs}
 use Rattle.parabola.specs.Parabola.{In-range}
 use Rattle.arc.specs.Arc.{parabola}
-use Rattle.arc.proofs.Refusals.{told-within, told-outside}
+use Rattle.arc.proofs.Refusals.{test-passed, test-failed}
 use Rattle.arc.proofs.Coverings.{regular-unrefused, regular-verdict, never-cleared, verdict-within}
 use Rattle.arc.proofs.regular_verdict.Statement.{statement}
 use Rattle.arc.proofs.regular_verdict.Tie as tie
 
 range : (c : tie.Else1) → In-range (parabola (c .before .before .args .arc))
-range c = told-within _ (c .before .is-within .ensures) (c .if1 .left)
+range c = test-passed _ (c .before .is-within .ensures) (c .if1 .left)
 
 outside : tie.Need-returns
-outside c = never-cleared _ _ (told-outside _ (c .before .is-within .ensures) (c .if1 .taken))
+outside c = never-cleared _ _ (test-failed _ (c .before .is-within .ensures) (c .if1 .taken))
 
 refused : tie.Need-returns-2
 refused c =

@@ -6,7 +6,6 @@ use Rattle.parabola.proofs.Laws.{spread-most}
 use Rattle.arc.proofs.covering.covering_window.Statement.{statement}
 use Rattle.arc.proofs.covering.covering_window.Tie as tie
 
--- the sum is below 2^63
 sum-most : (c : tie.After-spread) → c .before .args .arc .highest + c .spread .result < 2 ^ 63
 sum-most c = let r = c .before .pre in omega (arith, c .spread .ensures, spread-most r, r .window-high, r .unit-within .1)
 

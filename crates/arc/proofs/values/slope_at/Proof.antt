@@ -1,7 +1,8 @@
 -- `arc::values::slope_at` meets its contract. Assumes nothing.
 use native.Mathlib.Omega.{arith}
 use Rattle.numbers.proofs.Integers.{mod-below}
-use Rattle.arc.proofs.Arcs.{positive, rise-fits, rise-read, slope-of-terms}
+use Rattle.parabola.proofs.Laws.{positive}
+use Rattle.arc.proofs.Arcs.{rise-fits, rise-read, slope-of-terms}
 use Rattle.arc.proofs.values.slope_at.Statement.{statement}
 use Rattle.arc.proofs.values.slope_at.Tie as tie
 

@@ -2,8 +2,8 @@
 use native.Mathlib.Nat.{mod-lt, mul-le-mul}
 use native.Mathlib.Omega.{arith}
 use Rattle.numbers.proofs.Integers.{mod-below}
-use Rattle.parabola.proofs.Laws.{square-most, triangle-square, triangle-most}
-use Rattle.arc.proofs.Arcs.{positive, arc-fits, arc-read, value-of-terms}
+use Rattle.parabola.proofs.Laws.{positive, square-most, triangle-square, triangle-most}
+use Rattle.arc.proofs.Arcs.{arc-fits, arc-read, value-of-terms}
 use Rattle.arc.proofs.values.value_at.Statement.{statement}
 use Rattle.arc.proofs.values.value_at.Tie as tie
 
