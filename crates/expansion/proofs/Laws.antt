@@ -1,5 +1,5 @@
--- What a search reaches from a row on, for a program that goes through the rows: at the row itself, further along it, or in the next row.
--- The laws of this crate that others may use beside its promises. Assumes nothing.
+-- The laws of this crate that others may use beside its promises. What a search reaches from a row on, for a program that goes through the rows: at the row
+-- itself, further along it, or in the next row. Where a program stands that draws the rows, and the sign of a row. Assumes nothing.
 use mathlib.Core.Path.{_≡_, refl, _∙_, ap}
 use mathlib.Core.Logic.{_⊎_, inl, inr, ⊎-elim}
 use Prim.Native.Nat.{ℕ, suc, _+_, _*_, _/_, _%_, _≤_, _<_}
@@ -11,6 +11,8 @@ use Rattle.expansion.specs.Configurations.{configuration, regular as all
 use Rattle.expansion.specs.Reached.{Search, configurations-of, reached-in, reached, reached-from}
 use Rattle.expansion.specs.Reached.Search.{regular, fine}
 use Rattle.expansion.proofs.Unrolling.{unrolled, rows-next, rows-end, some-row}
+pub use Rattle.expansion.proofs.Multiples.{row-by-parity}
+pub use Rattle.expansion.proofs.Drawing.{At-row, first-drawn, not-last, is-last, next-drawn}
 pub use Rattle.expansion.proofs.Regular.{relabelled}
 use Rattle.expansion.proofs.Regular.{regular-next, regular-end, regular-many}
 use Rattle.expansion.proofs.Fine.{fine-next, fine-end, fine-some}

@@ -2,6 +2,8 @@ mod Unrolling
 mod Recurrences
 mod Length
 mod RowLaws
+mod Multiples
+mod Drawing
 mod Period
 mod Regular
 mod Fine

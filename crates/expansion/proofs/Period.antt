@@ -8,29 +8,32 @@ use native.Mathlib.Omega.{arith}
 use Rattle.numbers.specs.Divisors.{gcd}
 use Rattle.numbers.proofs.Remainders.{divides-if-same, same-if-divides}
 use Rattle.numbers.proofs.Divisors.{gcd-zero, gcd-step, gcd-correct, divides-scaled}
-use Rattle.expansion.specs.Rows.{last, remainder-at, denominator-at, remainder-before, period}
+use Rattle.expansion.specs.Rows.{last, remainder-at, denominator-at, remainder-before, denominator-before, period}
 use Rattle.expansion.specs.Promise.{Period-correct}
 use Rattle.expansion.proofs.Unrolling.{expansion-unrolled, at-each}
-use Rattle.expansion.proofs.Recurrences.{Kept}
 use Rattle.expansion.proofs.RowLaws.{last-index, kept, rows-correct}
 
 module _ (M a : ℕ) (small : a < M) where
   gcd-positive : 0 < gcd a M
   gcd-positive = pos-of-dvd-of-pos (gcd-correct a M .divides-second) (omega arith)
 
-  -- a row that has the remainder 0 and keeps the divisors of a and M
-  at-zero : {t u p q : ℕ} → Kept M t u p q → gcd u t ≡ gcd a M → u ≡ 0 → q * gcd a M ≡ M
-  at-zero {t} {u} {p} {q} k g z =
-      let b : t ≡ gcd a M = sym (gcd-zero t) ∙ (rw z at g) in
-      omega (arith, k .whole, ap (λ (n : ℕ). q * n) b, ap (λ (n : ℕ). p * n) z)
+  -- every row keeps the divisors of a and M, so that the last one, which has the remainder 0, has them before it
+  last-divisor : remainder-before M a (last M a) ≡ gcd a M
+  unfolding remainder-before remainder-at
+  last-divisor =
+      let g =
+      at-each (λ t u p q. gcd u t ≡ gcd a M) (λ t u p q h e. sym (gcd-step u t h) ∙ e) (expansion-unrolled M a) refl (last M a) (omega (arith, last-index M a)) in
+      sym (gcd-zero (remainder-before M a (last M a))) ∙ (rw (rows-correct M a small .last-remainder) at g)
 
   period-gcd : period M a * gcd a M ≡ M
-  unfolding period denominator-at remainder-at
+  unfolding period
   period-gcd =
-      at-zero (kept M a small (last M a) (omega arith))
-      (unfold remainder-before in
-      at-each (λ t u p q. gcd u t ≡ gcd a M) (λ t u p q h e. sym (gcd-step u t h) ∙ e) (expansion-unrolled M a) refl (last M a) (omega (arith, last-index M a)))
-      (rows-correct M a small .last-remainder)
+      omega (
+        arith,
+        kept M a small (last M a) (omega arith) .whole,
+        ap (λ (n : ℕ). denominator-at M a (last M a) * n) last-divisor,
+        ap (λ (n : ℕ). denominator-before M a (last M a) * n) (rows-correct M a small .last-remainder),
+      )
 
   modulus-is : gcd a M * period M a ≡ M
   modulus-is = mul-comm (gcd a M) (period M a) ∙ period-gcd
@@ -47,10 +50,12 @@ module _ (M a : ℕ) (small : a < M) where
   period-correct =
       record {
         last-denominator = refl;
+        positive = kept M a small (last M a) (omega arith) .some;
         divisor = gcd-correct a M;
         divisor-of-zero = gcd-zero M;
         by-divisor = sym (div-eq-of-eq-mul-left gcd-positive (sym period-gcd));
         exact = period-gcd;
+        last-divisor = last-divisor;
         repeats = λ x. agree x (period M a) .1 (dvd-refl (period M a));
         agree = agree;
         not-before = λ x y h l e. omega (arith, le-of-dvd h (agree x y .0 e));

@@ -1,7 +1,8 @@
 -- All that is promised of the expansion. Assumes nothing.
 use mathlib.Core.Path.{refl}
 use Rattle.expansion.specs.Promise.{Promised}
-use Rattle.expansion.proofs.RowLaws.{rows-correct, rows-few}
+use Rattle.expansion.proofs.RowLaws.{rows-correct, rows-bounded, rows-few}
+use Rattle.expansion.proofs.Multiples.{multiples-correct}
 use Rattle.expansion.proofs.Period.{period-correct}
 use Rattle.expansion.proofs.ConfigurationLaws.{regular-correct, fine-correct}
 use Rattle.expansion.proofs.Searches.{searches-correct}
@@ -11,6 +12,8 @@ pub promised : Promised
 promised =
     record {
       rows = rows-correct;
+      bounded = rows-bounded;
+      multiples = multiples-correct;
       few = rows-few;
       period = period-correct;
       configuration-is = λ n i t. (refl, refl, refl);

@@ -1,4 +1,5 @@
--- From row to row: the recurrences, remainders that fall to the first 0, and q(i)·theta(i-1) + q(i-1)·theta(i) = M. Assumes nothing.
+-- From row to row: the recurrences, remainders that fall to the first 0, denominators that do not fall, how large both are, and q(i)·theta(i-1) + q(i-1)·theta(i) = M.
+-- Assumes nothing.
 use mathlib.Core.Path.{_≡_, refl, sym, _∙_, ap}
 use mathlib.Core.List.{List, _∷_}
 use Prim.Native.Nat.{ℕ, zero, suc, _+_, _*_, _/_, _%_, _≤_, _<_}
@@ -15,22 +16,31 @@ pub record Kept (M t u p q : ℕ) : Type 0 where
   pub falls : u < t
   pub whole : q * t + p * u ≡ M
   pub some : 1 ≤ q
+  pub not-falling : p ≤ q
 
 pub kept-first : {M a : ℕ} → a < M → Kept M M a 0 1
-kept-first h = record { falls = h; whole = omega arith; some = omega arith }
+kept-first h = record { falls = h; whole = omega arith; some = omega arith; not-falling = omega arith }
+
+-- no denominator is above the modulus, and every remainder is below it
+module _ {M t u p q : ℕ} (k : Kept M t u p q) where
+  pub within : q ≤ M
+  within = let h : 1 ≤ t = omega (arith, k .falls) in omega (arith, k .whole, mul-le-mul-right q h)
+
+  pub below : u < M
+  below = omega (arith, k .falls, k .whole, mul-le-mul-right t (k .some))
 
 module _ {M t u p q : ℕ} (k : Kept M t u p q) (pos : 0 < u) where
+  next-not-below : q ≤ p + t / u * q
+  next-not-below = omega (arith, mul-le-mul-right q (quotient-positive t u pos (omega (arith, k .falls))))
+
   pub kept-next : Kept M u (t % u) q (p + t / u * q)
   kept-next =
       record {
         falls = mod-lt t pos;
         whole = omega (arith, k .whole, ap (λ (n : ℕ). q * n) (div-add-mod' t u));
-        some = omega (arith, k .some, mul-le-mul-right q (quotient-positive t u pos (omega (arith, k .falls))));
+        some = omega (arith, k .some, next-not-below);
+        not-falling = next-not-below;
       }
-
-  -- the next denominator is at most the modulus, and so is the product in it
-  pub denominator-fits : p + t / u * q ≤ M
-  denominator-fits = omega (arith, kept-next .whole, mul-le-mul-right (p + t / u * q) pos)
 
 -- a row that is not the last, and the one after it
 pub record Neighbours (t u p q k u′ q′ : ℕ) : Type 0 where

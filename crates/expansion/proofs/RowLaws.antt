@@ -1,14 +1,16 @@
--- The rows of the expansion of every step below a modulus, by index: the records `Rows-correct` and `Rows-few` of specs/Promise.antt.
+-- The rows of the expansion of every step below a modulus, by index: the records `Rows-correct`, `Rows-bounded` and `Rows-few` of
+-- specs/Promise.antt.
 -- Assumes nothing.
 use mathlib.Core.Path.{_≡_, refl, sym}
 use Prim.Native.Nat.{ℕ, suc, _-_, _≤_, _<_}
 use native.Mathlib.Nat.{lt-of-not-le}
 use native.Mathlib.Omega.{arith}
 use lib.ListN.{length}
+use Rattle.numbers.proofs.Remainders.{quotient-positive}
 use Rattle.expansion.specs.Rows.{expansion, last, remainder-at, denominator-at, quotient-at, remainder-before, denominator-before}
-use Rattle.expansion.specs.Promise.{Rows-correct, Rows-few}
+use Rattle.expansion.specs.Promise.{Rows-correct, Rows-bounded, Rows-few}
 use Rattle.expansion.proofs.Unrolling.{expansion-unrolled, at-each, some-row, first-row}
-use Rattle.expansion.proofs.Recurrences.{Kept, kept-first, kept-next, Neighbours, neighbours, rejoined, single-row, last-row, last-drawn}
+use Rattle.expansion.proofs.Recurrences.{Kept, kept-first, kept-next, within, below, Neighbours, neighbours, rejoined, single-row, last-row, last-drawn}
 use Rattle.expansion.proofs.Length.{few-rows}
 
 -- there is one row more than the last index
@@ -50,6 +52,18 @@ module _ (M a : ℕ) (small : a < M) where
         last-quotient = last-row (expansion-unrolled M a) (last M a) (last-index M a) .1;
         modulus-of-row = λ i l. kept i l .whole;
         last-drawn = λ h. (second-row h, last-drawn (expansion-unrolled M a) small (last M a - 1) (omega (arith, last-index M a, second-row h)));
+      }
+
+  pub rows-bounded : Rows-bounded M a
+  rows-bounded =
+      record {
+        quotient-positive = λ i l.
+            let n = beside i l in
+            rw (n .drawn) (quotient-positive (remainder-before M a i) (remainder-at M a i) (n .not-zero) (omega (arith, kept i (omega arith) .falls)));
+        denominator-positive = λ i l. kept i l .some;
+        denominators-not-falling = λ i l. kept i l .not-falling;
+        denominator-within = λ i l. within (kept i l);
+        remainder-below = λ i l. below (kept i l);
       }
 
   pub rows-few : Rows-few M a

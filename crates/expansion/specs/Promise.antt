@@ -42,6 +42,19 @@ pub record Rows-correct (M a : ℕ) : Type 0 where
   -- where there is a quotient, the last one drawn, k(m), is at least 2
   pub last-drawn : 0 < a → (0 < last M a) × (2 ≤ quotient-at M a (last M a - 1))
 
+-- how large they are: quotients that are drawn and denominators are at least 1, denominators do not fall and are at most M, remainders are below M
+pub record Rows-bounded (M a : ℕ) : Type 0 where
+  pub quotient-positive : (i : ℕ) → i < last M a → 1 ≤ quotient-at M a i
+  pub denominator-positive : (i : ℕ) → i ≤ last M a → 1 ≤ denominator-at M a i
+  pub denominators-not-falling : (i : ℕ) → i ≤ last M a → denominator-before M a i ≤ denominator-at M a i
+  pub denominator-within : (i : ℕ) → i ≤ last M a → denominator-at M a i ≤ M
+  pub remainder-below : (i : ℕ) → i ≤ last M a → remainder-at M a i < M
+
+-- a·q(i) is theta(i) modulo M in an even row, and its opposite in an odd one
+pub record Multiples-correct (M a : ℕ) : Type 0 where
+  pub even-row : (i : ℕ) → i ≤ last M a → i % 2 ≡ 0 → a * denominator-at M a i % M ≡ remainder-at M a i
+  pub odd-row : (i : ℕ) → i ≤ last M a → i % 2 ≡ 1 → (a * denominator-at M a i + remainder-at M a i) % M ≡ 0
+
 -- there are rows 0 to m: at least 1, and up to 2^62 at most 89
 pub record Rows-few (M a : ℕ) : Type 0 where
   pub rows-to-last : length (expansion M a) ≡ suc (last M a)
@@ -51,11 +64,14 @@ pub record Rows-few (M a : ℕ) : Type 0 where
 -- the period P = q(m) is M / gcd(a, M); after it the multiples of a modulo M repeat, and after no smaller number
 pub record Period-correct (M a : ℕ) : Type 0 where
   pub last-denominator : period M a ≡ denominator-at M a (last M a)
+  pub positive : 1 ≤ period M a
   pub divisor : Greatest-common-divisor a M (gcd a M)
   pub divisor-of-zero : gcd 0 M ≡ M
   pub by-divisor : period M a ≡ M / gcd a M
   -- the division leaves nothing
   pub exact : period M a * gcd a M ≡ M
+  -- the last remainder that is not 0, or M where the step is 0
+  pub last-divisor : remainder-before M a (last M a) ≡ gcd a M
   pub repeats : (x : ℕ) → a * (x + period M a) % M ≡ a * x % M
   pub not-before : (x y : ℕ) → 0 < y → y < period M a → a * (x + y) % M ≡ a * x % M → ⊥
   -- so that multiples agree exactly where the period divides their distance
@@ -141,6 +157,8 @@ pub record Answer-correct (M a : ℕ) (answered : Answer) : Type 0 where
 -- all of it: of every step below a modulus, and the answer of every two numbers
 pub record Promised : Type 0 where
   pub rows : (M a : ℕ) → a < M → Rows-correct M a
+  pub bounded : (M a : ℕ) → a < M → Rows-bounded M a
+  pub multiples : (M a : ℕ) → a < M → Multiples-correct M a
   pub few : (M a : ℕ) → a < M → Rows-few M a
   pub period : (M a : ℕ) → a < M → Period-correct M a
   -- a configuration has the count and the label that it is made of

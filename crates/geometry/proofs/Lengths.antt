@@ -1,12 +1,11 @@
 -- Two-length configurations in one form for even and odd rows, and how many points they have beside the period. Assumes nothing.
 use mathlib.Core.Path.{_≡_, sym, _∙_, ap}
 use mathlib.Core.Bool.{Bool, false, not}
-use mathlib.Core.Logic.{⊎-elim, by-cases}
+use mathlib.Core.Logic.{by-cases}
 use Prim.Native.Nat.{ℕ, _+_, _-_, _*_, _%_, _≤_, _<_}
-use native.Mathlib.Nat.{eq-zero-or-pos, mul-zero, zero-mod}
+use native.Mathlib.Nat.{mul-zero, zero-mod}
 use native.Mathlib.Decide.{decLt}
 use native.Mathlib.Omega.{arith}
-use Rattle.numbers.specs.Divisors.{gcd}
 use Rattle.expansion.specs.Rows.{period}
 use Rattle.expansion.proofs.Promises as expansion
 use Rattle.geometry.specs.TwoLength.{multiple-mod, TwoLength, Lengths}
@@ -65,7 +64,7 @@ unfolding multiple-mod
 at-period M a small =
     let r = expansion.promised .period M a small in
     let e : 0 + period M a ≡ period M a = omega arith in (
-      ⊎-elim (λ z. absurd (omega (arith, r .exact, ap (λ (n : ℕ). n * gcd a M) z))) (λ h. h) (eq-zero-or-pos (period M a)),
+      r .positive,
       ap (λ (n : ℕ). a * n % M) (sym e) ∙ r .repeats 0 ∙ rw (mul-zero a, zero-mod M),
     )
 

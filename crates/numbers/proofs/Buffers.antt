@@ -1,14 +1,15 @@
--- A buffer that is written piece by piece: what is there, and what is still to come, make the goal. Assumes nothing.
+-- A buffer that is written piece by piece: what is there, and what is still to come, make the goal. Also one that is written from the last place down.
+-- Assumes nothing.
 use mathlib.Core.Path.{_≡_, refl, sym, _∙_, ap, subst}
 use mathlib.Core.List.{List, [], _∷_, _++_}
 use mathlib.Core.Logic.{by-cases}
 use Prim.Native.Nat.{ℕ, suc, _+_, _-_, _≤_, _<_, min, max}
 use native.Mathlib.Nat.{zero-add, add-zero, add-suc, suc-add}
 use native.Mathlib.Numerals.{add-one}
-use native.Mathlib.Decide.{decLe}
+use native.Mathlib.Decide.{decLe, ℕ-discrete}
 use native.Mathlib.Omega.{arith}
 use lib.ListN.{length, getD, set, take, drop, replicate, length-append, length-drop, length-replicate, length-set, List·getD-append}
-use lib.Seq.{set-out, sets, sets-eq, length-sets, getD-append-add, getD-drop, take-append-seam}
+use lib.Seq.{set-out, sets, sets-eq, length-sets, getD-append-add, getD-drop, getD-set-same, getD-set-other, ext-getD, take-append-seam}
 use Rattle.numbers.specs.Lists.{zero-padded, overwrite-front, place-after}
 use Rattle.numbers.specs.Promise.{Buffer-correct}
 use Rattle.numbers.proofs.Lists.{Ascending, drop-replicate}
@@ -61,6 +62,29 @@ module _ {goal old : List ℕ} {from : ℕ} {now : List ℕ} {at : ℕ} where
   -- there is room for what is left
   pub room : {rest : List ℕ} → Writing goal old from rest now at → from + length goal ≤ length old → at + length rest ≤ length now
   room w h = omega (arith, w .place, w .length-kept)
+
+-- ---- from the last place down
+
+-- a buffer has what the goal has, from a place on
+pub record Agrees-from (goal now : List ℕ) (place : ℕ) : Type 0 where
+  pub length-same : length now ≡ length goal
+  pub agrees : (i : ℕ) → place ≤ i → getD now i 0 ≡ getD goal i 0
+
+-- an entry is written before them
+pub write-before : {goal now : List ℕ} {place x : ℕ} → Agrees-from goal now (suc place) → place < length goal → x ≡ getD goal place 0
+    → Agrees-from goal (set now place x) place
+write-before {goal} {now} {place} {x} w h e =
+    record {
+      length-same = length-set now place x ∙ w .length-same;
+      agrees = λ i l. by-cases (ℕ-discrete i place) (here i) (λ n. getD-set-other now place i x 0 n ∙ w .agrees i (omega arith));
+    }
+  where
+    here : (i : ℕ) → i ≡ place → getD (set now place x) i 0 ≡ getD goal i 0
+    here i f = rw f (getD-set-same now place x 0 (omega (arith, w .length-same)) ∙ e)
+
+-- all of it is written
+pub all-written : {goal now : List ℕ} → Agrees-from goal now 0 → now ≡ goal
+all-written {goal} {now} w = ext-getD 0 now goal (w .length-same) (λ i l. w .agrees i (omega arith))
 
 -- ---- as far as there are places
 

@@ -70,6 +70,12 @@ neither-refuses cs ds some = (λ e. to (first-failing cs) refl e, λ h. second-o
     to zero f e = (f, sym (second-of-two cs ds (accepts cs some .0 f)) ∙ e)
     to (suc n) f e = absurd (omega (arith, e, first-of-two cs ds f (λ z. omega (arith, z))))
 
+-- a number that refuses does so whatever else is asked after it
+pub refused-before : (cs ds : List Condition) (n : ℕ) → Refused-by cs n → Refused-by (cs ++ ds) n
+refused-before [] ds n h = absurd h
+refused-before (c ∷ cs) ds n (inl h) = inl h
+refused-before (c ∷ cs) ds n (inr h) = inr (h .0, refused-before cs ds n (h .1))
+
 -- no number that refuses is 0
 pub refused-positive : (cs : List Condition) {n : ℕ} → Numbered cs → Refused-by cs n → 0 < n
 refused-positive [] some h = absurd h

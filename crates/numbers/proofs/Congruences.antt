@@ -49,6 +49,10 @@ pub same-remainder : {M a b : ℕ} → Congruent M a b → a % M ≡ b % M
 same-remainder {M} {a} {b} p =
     sym (add-mul-mod-self-right a (p .over) M) ∙ ap (λ (n : ℕ). n % M) (p .equal) ∙ add-mul-mod-self-right b (p .under) M
 
+-- and numbers that leave the same remainder are congruent
+pub by-remainders : (M a b : ℕ) → a % M ≡ b % M → Congruent M a b
+by-remainders M a b e = chain (flip (remainder a M)) (chain (equals e) (remainder b M))
+
 -- of congruent numbers one below the modulus is the smallest
 pub least : {M a b : ℕ} → a < M → Congruent M a b → a ≤ b
 least {M} {a} {b} h p = omega (arith, mod-eq-of-lt h, same-remainder p, mod-le b M)

@@ -1,4 +1,4 @@
--- Integers as differences of two numbers, which sums and products keep; and the remainder of an integer by what it is congruent to.
+-- Integers as differences of two numbers, which sums, differences and products keep; and the remainder of an integer by what it is congruent to.
 -- Assumes nothing.
 use mathlib.Core.Path.{_≡_, refl, ap}
 use mathlib.Core.Bool.{true, false, cond}
@@ -7,10 +7,10 @@ use Prim.Native.Nat.{ℕ, zero, suc, _+_, _-_, _*_, _/_, _%_, _<_}
 use native.Mathlib.Nat.{mod-lt, div-add-mod'}
 use native.Mathlib.Omega.{arith}
 use lib.Dec.{ltb}
-use lib.IntN.{ℤ, pos, negsuc, negℤ, natAbs, subℕ, _+ℤ_, _*ℤ_}
+use lib.IntN.{ℤ, pos, negsuc, negℤ, natAbs, subℕ, _+ℤ_, _-ℤ_, _*ℤ_}
 use borrow.Author.Tests.{ltb-true, ltb-false}
 use Rattle.numbers.specs.Integers.{_modulo_}
-use Rattle.numbers.proofs.Congruences.{Congruent, flip, chain, cancel, same}
+use Rattle.numbers.proofs.Congruences.{Congruent, equals, flip, chain, plus, cancel, none, remainder, same}
 
 -- what an integer adds, and what it takes away: one of them is 0
 abbrev pub gain : ℤ → ℕ
@@ -49,6 +49,15 @@ sum {z = negsuc m} {w = negsuc n} p q = record { balance = omega (arith, p .bala
 pub negated : (n : ℕ) → Difference (negℤ (pos n)) 0 n
 negated zero = record { balance = refl }
 negated (suc n) = record { balance = refl }
+
+-- -z = b - a
+opposite : {z : ℤ} {a b : ℕ} → Difference z a b → Difference (negℤ z) b a
+opposite {z = pos n} p = record { balance = omega (arith, p .balance, negated n .balance) }
+opposite {z = negsuc n} p = record { balance = omega (arith, p .balance) }
+
+-- z - w = (a + d) - (b + c)
+pub minus : {z w : ℤ} {a b c d : ℕ} → Difference z a b → Difference w c d → Difference (z -ℤ w) (a + d) (b + c)
+minus p q = sum p (opposite q)
 
 -- s·y
 pub product : (s : ℤ) (y : ℕ) → Difference (s *ℤ pos y) (gain s * y) (loss s * y)
@@ -96,6 +105,15 @@ module _ {M : ℕ} (some : 0 < M) where
   -- and only the remainder does
   pub mod-is : {z : ℤ} {a b r : ℕ} → Difference z a b → r < M → Congruent M (r + b) a → r ≡ z modulo M
   mod-is {z} {a} {b} p low c = same low (mod-below z) (cancel b (chain c (flip (mod-congruent p))))
+
+  -- the remainder of n - z, by that of z
+  pub mod-minus : (n : ℕ) (z : ℤ) → (n + (M - z modulo M)) % M ≡ (pos n -ℤ z) modulo M
+  mod-minus n z =
+      let r = z modulo M in
+      let l = mod-below z in
+      mod-is (minus (number n) (split z)) (mod-lt (n + (M - r)) some)
+      (chain (equals (omega arith)) (chain (plus (remainder (n + (M - r)) M) (flip (mod-congruent (split z))))
+      (chain (equals {b = n + loss z + M} (omega arith)) (chain (plus (equals {a = n + loss z} refl) (none M)) (equals (omega arith))))))
 
   -- the integer is its remainder and a multiple of M
   pub mod-multiple : (z : ℤ) → (k : ℤ) × (z ≡ pos (z modulo M) +ℤ k *ℤ pos M)

@@ -4,6 +4,8 @@ pub mod Fibonacci
 pub mod Lists
 pub mod Equivalences
 pub mod Congruences
+pub mod Parity
+pub mod Sums
 pub mod Integers
 pub mod Signed
 pub mod Selections

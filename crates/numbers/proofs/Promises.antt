@@ -8,6 +8,7 @@ use native.Mathlib.Omega.{arith}
 use Rattle.numbers.specs.Checklist.{unless-refused}
 use Rattle.numbers.specs.Integers.{_modulo_}
 use Rattle.numbers.specs.Lists.{count-if, tabulate, joined}
+use Rattle.numbers.specs.Sums.{sum, alternating-sum}
 use Rattle.numbers.specs.Promise.{Conditions-correct, Selection-correct, Buffers-correct, Promised}
 use Rattle.numbers.proofs.Checklists.{refuses, accepts}
 use Rattle.numbers.proofs.Integers.{mod-below, mod-multiple}
@@ -63,6 +64,9 @@ promised =
       remainders-by-zero = λ n. (mod-zero n, omega arith);
       selections = selection-correct;
       sequences = unfold tabulate joined in record { no-value = λ f i. refl; value-more = λ f n i. refl; no-list = joined-none; list-more = λ f n i. refl };
+      sums =
+          unfold sum alternating-sum in
+          record { no-term = λ f i. refl; term-more = λ f n i. refl; alternating-none = λ f i. refl; alternating-more = λ f n i. refl };
       pieces = pieces-correct;
       buffers = buffers-correct;
     }

@@ -6,11 +6,12 @@ use mathlib.Core.Bool.{Bool, true, false}
 use mathlib.Core.List.{List, [], _∷_, _++_, List·Memᴰ}
 use mathlib.Core.Logic.{_↔_}
 use Prim.Native.Nat.{ℕ, suc, _+_, _-_, _^_, _≤_, _<_, _∣_}
-use lib.IntN.{ℤ, pos, negsuc, _+ℤ_, _*ℤ_}
+use lib.IntN.{ℤ, pos, negsuc, _+ℤ_, _-ℤ_, _*ℤ_}
 use lib.ListN.{length, getD}
 use Rattle.numbers.specs.Checklist.{Condition, Check, condition, check, conditions, first-failing, All-hold, Refused-by, Numbered, unless-refused}
 use Rattle.numbers.specs.Integers.{_modulo_}
 use Rattle.numbers.specs.Lists.{filter-range, count-if, tabulate, joined, overwrite-front, place-after}
+use Rattle.numbers.specs.Sums.{sum, alternating-sum}
 
 -- ---- refusals
 
@@ -72,6 +73,15 @@ pub record Sequences-correct : Type 0 where
   pub no-list : (f : ℕ → List ℕ) (i : ℕ) → joined f 0 i ≡ []
   pub list-more : (f : ℕ → List ℕ) (n i : ℕ) → joined f (suc n) i ≡ f i ++ joined f n (suc i)
 
+-- ---- sums
+
+-- f(i) + f(i+1) + f(i+2) and so on, and f(i) - f(i+1) + f(i+2) and so on
+pub record Sums-correct : Type 0 where
+  pub no-term : (f : ℕ → ℕ) (i : ℕ) → sum f 0 i ≡ 0
+  pub term-more : (f : ℕ → ℕ) (n i : ℕ) → sum f (suc n) i ≡ f i + sum f n (suc i)
+  pub alternating-none : (f : ℕ → ℕ) (i : ℕ) → alternating-sum f 0 i ≡ pos 0
+  pub alternating-more : (f : ℕ → ℕ) (n i : ℕ) → alternating-sum f (suc n) i ≡ pos (f i) -ℤ alternating-sum f n (suc i)
+
 -- ---- pieces of a stretch
 
 -- where so many pieces begin that make up the numbers below a total: the first at 0, and each no later than the next, where it ends; the last ends at the total. A
@@ -121,5 +131,6 @@ pub record Promised : Type 1 where
   pub remainders-by-zero : (n : ℕ) → (pos n modulo 0 ≡ n) × (negsuc n modulo 0 ≡ 0)
   pub selections : (property : ℕ → Bool) → Selection-correct property
   pub sequences : Sequences-correct
+  pub sums : Sums-correct
   pub pieces : (start : ℕ → ℕ) (pieces total : ℕ) → Starts start pieces total → Pieces-correct start pieces total
   pub buffers : Buffers-correct

@@ -5,7 +5,7 @@ use Prim.Native.Nat.{_+_, _*_, _/_, _≤_}
 use native.Mathlib.Nat.{pos-of-ne-zero, mod-lt}
 use native.Mathlib.Omega.{arith}
 use borrow.Author.Needs.{needs}
-use Rattle.expansion.proofs.Recurrences.{denominator-fits}
+use Rattle.expansion.proofs.Recurrences.{kept-next, within}
 use Rattle.expansion.proofs.Filling.{columns, Filled, start, write-row, write-last}
 use Rattle.expansion.proofs.fill.Statement.{statement}
 use Rattle.expansion.proofs.fill.Tie as tie
@@ -20,7 +20,7 @@ abbrev μ-loop : tie.MeasureT-loop
 -- in a turn the next denominator, and the product in it, are at most the modulus
 next-fits : (c : tie.In-loop Inv-loop μ-loop)
     → let l = c .before .loop in l .denominator-before + l .before / l .remainder * l .denominator ≤ c .before .before .args .modulus
-next-fits c = denominator-fits (c .before .loop .inv .kept) (pos-of-ne-zero (c .loop-test .taken))
+next-fits c = within (kept-next (c .before .loop .inv .kept) (pos-of-ne-zero (c .loop-test .taken)))
 
 loop-holds : tie.Need-loop-holds Inv-loop μ-loop
 loop-holds c = start (c .pre .0) (c .pre .1)
