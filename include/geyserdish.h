@@ -21,6 +21,8 @@
  *     5   window 0 or above the modulus
  *     6   curve below -1,048,576 or above 1,048,576
  *     7   more hard arguments than the list has places
+ *     9   argument not below the period (geyserdish_digits, geyserdish_residue)
+ *     10  target not below the modulus, or not a multiple of gcd(step, modulus) (geyserdish_divide)
  *
  * The caller may pass any numbers: the functions test them, and a refusal leaves all of the caller's memory as it was.
  *
@@ -41,8 +43,9 @@
 extern "C" {
 #endif
 
-/* The rows of an expansion's table. */
+/* The rows of an expansion's table, and the places for the digits of an argument. */
 #define GEYSERDISH_ROWS 89
+#define GEYSERDISH_DIGITS 88
 
 /*
  * The continued-fraction expansion of step and modulus. It starts from
@@ -71,6 +74,70 @@ uint32_t geyserdish_expand(
     uint64_t denominators[GEYSERDISH_ROWS],
     uint64_t quotients[GEYSERDISH_ROWS],
     uint64_t *last);
+
+/*
+ * The digits of an argument x below the period, with the names of the expansion above: the only numbers digit(0) to digit(m-1) with
+ *     x = digit(0)*denominator(0) + digit(1)*denominator(1) + .. + digit(m-1)*denominator(m-1)
+ *     digit(0) < quotient(0)
+ *     digit(i) <= quotient(i), and digit(i-1) = 0 where digit(i) = quotient(i), for i from 1 to m-1
+ * From the highest row down, each is how often its row's denominator goes into what the rows above leave of x. They tell why step*x is
+ * close to a multiple of the modulus: modulo the modulus, the digit d of row i moves step*x by d*remainder(i), up where i is even and
+ * down where i is odd, and remainders fall from row to row.
+ *
+ * Leaves:
+ *     digits[i]   digit(i) for i from 0 to m-1, and 0 in the places after
+ *     *count      m
+ *
+ * Returns 0, or refuses by
+ *     1   modulus below 2 or above 2^62
+ *     2   step not below the modulus
+ *     9   argument not below the period
+ * and leaves digits and *count as they were.
+ */
+uint32_t geyserdish_digits(
+    uint64_t modulus,
+    uint64_t step,
+    uint64_t argument,
+    uint64_t digits[GEYSERDISH_DIGITS],
+    uint64_t *count);
+
+/*
+ * The residue of an argument, made from its digits: (step*argument) mod modulus, which is
+ *     (digit(0)*remainder(0) - digit(1)*remainder(1) + digit(2)*remainder(2) - ..) mod modulus
+ * It is not the residue of a segment, which goes down from the segment's start.
+ *
+ * Leaves:
+ *     *residue   step*argument mod modulus
+ *
+ * Returns 0, or refuses by
+ *     1   modulus below 2 or above 2^62
+ *     2   step not below the modulus
+ *     9   argument not below the period
+ * and leaves *residue as it was.
+ */
+uint32_t geyserdish_residue(
+    uint64_t modulus,
+    uint64_t step,
+    uint64_t argument,
+    uint64_t *residue);
+
+/*
+ * The way back, from a residue to its argument: modular division of the target by the step.
+ *
+ * Leaves:
+ *     *argument   the x below the period with (step*x) mod modulus = target; there is only one
+ *
+ * Returns 0, or refuses by
+ *     1    modulus below 2 or above 2^62
+ *     2    step not below the modulus
+ *     10   target not below the modulus, or not a multiple of gcd(step, modulus): then no x has it
+ * and leaves *argument as it was.
+ */
+uint32_t geyserdish_divide(
+    uint64_t modulus,
+    uint64_t step,
+    uint64_t target,
+    uint64_t *argument);
 
 /*
  * The regular search of a segment. It finds the least residue over the x below a number n, without going through them. With the

@@ -7,6 +7,9 @@ pub const ROWS: usize = 89;
 
 pub type Column = [u64; ROWS];
 
+/// The places for the digits of an argument.
+pub type Digits = [u64; 88];
+
 /// What a regular search shows: the count reached, the quotients drawn, the distance, its argument, 1 for clear or 0 for
 /// possible.
 pub type RegularShown = [u64; 5];
@@ -33,6 +36,18 @@ unsafe extern "C" {
         quotients: &mut Column,
         last: &mut u64,
     ) -> u32;
+
+    /// The digits of an argument and their number into the caller's memory, or a refusal's number.
+    #[link_name = "geyserdish_digits"]
+    pub safe fn digits(modulus: u64, step: u64, argument: u64, digits: &mut Digits, count: &mut u64) -> u32;
+
+    /// The residue of an argument into the caller's memory, or a refusal's number.
+    #[link_name = "geyserdish_residue"]
+    pub safe fn residue(modulus: u64, step: u64, argument: u64, residue: &mut u64) -> u32;
+
+    /// The argument of a residue into the caller's memory, or a refusal's number.
+    #[link_name = "geyserdish_divide"]
+    pub safe fn divide(modulus: u64, step: u64, target: u64, argument: &mut u64) -> u32;
 
     /// The regular search of a segment into the caller's memory, or a refusal's number.
     #[link_name = "geyserdish_regular_search"]

@@ -129,15 +129,22 @@ static void check_expand(const char *example, uint64_t modulus, uint64_t step, u
     count_check("expand", example, number, refusal, has, wanted, 4);
 }
 
-/*
- * With F(1) = F(2) = 1 and each later F the sum of the two before it, F(90) is the last one that is not above 2^62. The remainders
- * of F(90) and F(89) are F(89), F(88), .., F(2), 0. All quotients are 1 but the last one: F(3) = 2 divided by F(2) = 1 is 2.
- */
-static void check_expand_every_row(void) {
-    uint64_t fibonacci[91] = {0, 1};
+/* F(0) = 0, F(1) = 1, and each later F the sum of the two before it. */
+static void set_fibonacci(uint64_t fibonacci[91]) {
+    fibonacci[0] = 0;
+    fibonacci[1] = 1;
     for (size_t i = 2; i <= 90; i++) {
         fibonacci[i] = fibonacci[i - 1] + fibonacci[i - 2];
     }
+}
+
+/*
+ * F(90) is the last one that is not above 2^62. The remainders of F(90) and F(89) are F(89), F(88), .., F(2), 0. All quotients are 1
+ * but the last one: F(3) = 2 divided by F(2) = 1 is 2.
+ */
+static void check_expand_every_row(void) {
+    uint64_t fibonacci[91];
+    set_fibonacci(fibonacci);
     struct rows rows = {{0}, {0}, {0}, 88};
     for (size_t i = 0; i < 88; i++) {
         rows.remainders[i] = fibonacci[89 - i];
@@ -167,6 +174,128 @@ static void check_expansions(void) {
     check_expand("step M", 45, 45, 2, NULL);
     check_expand("step 2^64 - 1", 45, UINT64_MAX, 2, NULL);
     check_expand("modulus 1, step M", 1, 1, 1, NULL);
+}
+
+/* ---- digits, residues and divisions ---- */
+
+static void check_digits(const char *example, uint64_t modulus, uint64_t step, uint64_t argument, uint32_t refusal,
+                         const uint64_t digits[GEYSERDISH_DIGITS], uint64_t count) {
+    struct lent has[2] = {fresh("digits", 8, GEYSERDISH_DIGITS), fresh("count", 8, 1)};
+    struct lent wanted[2] = {has[0], has[1]};
+    if (refusal == 0) {
+        set(&wanted[0], digits, GEYSERDISH_DIGITS);
+        set(&wanted[1], &count, 1);
+    }
+    uint32_t number = geyserdish_digits(modulus, step, argument, lend(&has[0]), lend(&has[1]));
+    count_check("digits", example, number, refusal, has, wanted, 2);
+}
+
+/* A call that leaves one number. */
+struct number_call {
+    const char *name, *leaves;
+    uint32_t (*call)(uint64_t modulus, uint64_t step, uint64_t given, uint64_t *number);
+};
+
+/* An argument or a target that is refused. */
+struct refused_number {
+    const char *example;
+    uint64_t modulus, step, given;
+    uint32_t refusal;
+};
+
+static const struct number_call RESIDUE = {"residue", "residue", geyserdish_residue};
+static const struct number_call DIVIDE = {"divide", "argument", geyserdish_divide};
+
+static void check_number(const struct number_call *call, const char *example, uint64_t modulus, uint64_t step, uint64_t given,
+                         uint32_t refusal, uint64_t found) {
+    struct lent has = fresh(call->leaves, 8, 1), wanted = has;
+    if (refusal == 0) {
+        set(&wanted, &found, 1);
+    }
+    uint32_t number = call->call(modulus, step, given, lend(&has));
+    count_check(call->name, example, number, refusal, &has, &wanted, 1);
+}
+
+/*
+ * The modulus F(90) and the step F(89), which have 88 quotients, 87 times 1 and then 2. The denominators are F(1), F(2), .., F(88) and
+ * the period F(90). As F(90) = 2*F(88) + F(87), and F(2) + F(4) + .. + F(86) = F(87) - 1, the digits of F(90) - 1 are 2 in row 87, 1 in
+ * the odd rows below, and 0 in the even ones. Its residue is that of -F(89), which is F(88).
+ */
+static void check_all_digits(void) {
+    uint64_t fibonacci[91], digits[GEYSERDISH_DIGITS] = {0};
+    set_fibonacci(fibonacci);
+    for (size_t i = 1; i < 87; i += 2) {
+        digits[i] = 1;
+    }
+    digits[87] = 2;
+    uint64_t modulus = fibonacci[90], step = fibonacci[89];
+    check_digits("Fibonacci numbers, the last argument", modulus, step, modulus - 1, 0, digits, 88);
+    check_number(&RESIDUE, "Fibonacci numbers, the last argument", modulus, step, modulus - 1, 0, fibonacci[88]);
+    check_number(&DIVIDE, "Fibonacci numbers", modulus, step, fibonacci[88], 0, modulus - 1);
+    check_digits("Fibonacci numbers, the period", modulus, step, modulus, 9, NULL, 0);
+}
+
+/*
+ * 45 and 14 have the denominators 1, 3, 13, 16 and the remainders 14, 3, 2, 1; 15 is 2 + 13, 44 is 4*3 + 2*16, and 2^62 and 1 have the
+ * only digit x. 45 and 15 have the period 3, and 45 and 44 the denominators 1, 1.
+ */
+static void check_arguments(void) {
+    static const struct {
+        const char *example;
+        uint64_t modulus, step, argument, count, residue;
+        uint64_t digits[GEYSERDISH_DIGITS];
+    } accepted[] = {
+        {"45 and 14, 0", 45, 14, 0, 4, 0, {0}},
+        {"45 and 14, 15", 45, 14, 15, 4, 30, {2, 0, 1, 0}},
+        {"45 and 14, 16", 45, 14, 16, 4, 44, {0, 0, 0, 1}},
+        {"45 and 14, 44", 45, 14, 44, 4, 31, {0, 4, 0, 2}},
+        {"45 and 15, 2", 45, 15, 2, 1, 30, {2}},
+        {"45 and 44, 44", 45, 44, 44, 2, 1, {0, 44}},
+        {"45 and 0, 0", 45, 0, 0, 0, 0, {0}},
+        {"2^62 and 1, 2^62 - 1", LARGEST, 1, LARGEST - 1, 1, LARGEST - 1, {LARGEST - 1}},
+    };
+    static const struct refused_number refused[] = {
+        {"45 and 14, 45", 45, 14, 45, 9},
+        {"45 and 14, 2^64 - 1", 45, 14, UINT64_MAX, 9},
+        {"45 and 15, 3", 45, 15, 3, 9},
+        {"45 and 0, 1", 45, 0, 1, 9},
+        {"2^62 and 1, 2^62", LARGEST, 1, LARGEST, 9},
+        {"modulus 0", 0, 0, 0, 1},
+        {"modulus 1", 1, 0, 0, 1},
+        {"modulus 2^62 + 1", LARGEST + 1, 1, 0, 1},
+        {"modulus, step and argument not accepted", 1, 1, UINT64_MAX, 1},
+        {"step M", 45, 45, 0, 2},
+        {"step and argument not accepted", 45, 46, 45, 2},
+    };
+    for (size_t i = 0; i < sizeof accepted / sizeof accepted[0]; i++) {
+        const char *example = accepted[i].example;
+        uint64_t modulus = accepted[i].modulus, step = accepted[i].step, x = accepted[i].argument;
+        check_digits(example, modulus, step, x, 0, accepted[i].digits, accepted[i].count);
+        check_number(&RESIDUE, example, modulus, step, x, 0, accepted[i].residue);
+        check_number(&DIVIDE, example, modulus, step, accepted[i].residue, 0, x);
+    }
+    for (size_t i = 0; i < sizeof refused / sizeof refused[0]; i++) {
+        uint64_t modulus = refused[i].modulus, step = refused[i].step, x = refused[i].given;
+        check_digits(refused[i].example, modulus, step, x, refused[i].refusal, NULL, 0);
+        check_number(&RESIDUE, refused[i].example, modulus, step, x, refused[i].refusal, 0);
+    }
+}
+
+static void check_targets(void) {
+    static const struct refused_number refused[] = {
+        {"45 and 14, target 45", 45, 14, 45, 10},
+        {"45 and 14, target 2^64 - 1", 45, 14, UINT64_MAX, 10},
+        {"45 and 15, target 31", 45, 15, 31, 10},
+        {"45 and 15, target 45", 45, 15, 45, 10},
+        {"45 and 0, target 1", 45, 0, 1, 10},
+        {"2^62 and 2, target 1", LARGEST, 2, 1, 10},
+        {"modulus 0", 0, 0, 0, 1},
+        {"modulus, step and target not accepted", 1, 1, 1, 1},
+        {"step and target not accepted", 45, 45, 45, 2},
+    };
+    for (size_t i = 0; i < sizeof refused / sizeof refused[0]; i++) {
+        check_number(&DIVIDE, refused[i].example, refused[i].modulus, refused[i].step, refused[i].given, refused[i].refusal, 0);
+    }
 }
 
 /* ---- the searches of a segment ---- */
@@ -548,6 +677,9 @@ static void check_ranges(void) {
 
 int main(void) {
     check_expansions();
+    check_all_digits();
+    check_arguments();
+    check_targets();
     check_regular_searches();
     check_fine_searches();
     check_scans();

@@ -1,4 +1,4 @@
-//! Document 01's definitions, as document 02 changes them, computed as they stand there: nothing here knows how the calls find their
+//! Document 01's definitions, as document 02 changes and completes them, computed as they stand there: nothing here knows how the calls find their
 //! answers. Only residues that may be too many to go through are counted by a floor sum. Wide numbers, so that nothing can wrap.
 
 // Each program uses some of them.
@@ -62,6 +62,51 @@ pub fn rows(modulus: u64, step: u64) -> Vec<Row> {
 /// The first x after 0 at which the multiples of the step modulo the modulus are 0 again, found by going through them.
 pub fn period(modulus: u64, step: u64) -> u64 {
     (1..).find(|x| step as u128 * *x as u128 % modulus as u128 == 0).unwrap()
+}
+
+/// 02's conditions on a list of digits: m of them, d(0) < k(1), d(i) <= k(i+1), and d(i-1) = 0 where d(i) = k(i+1).
+pub fn allowed(rows: &[Row], digits: &[u64]) -> bool {
+    let most = |i: usize| rows[i].quotient;
+    digits.len() == rows.len() - 1
+        && digits.iter().enumerate().all(|(i, &d)| (d as u128) < most(i) + u128::from(i > 0))
+        && (1..digits.len()).all(|i| (digits[i] as u128) < most(i) || digits[i - 1] == 0)
+}
+
+/// The sum of d(i)*q(i).
+pub fn digit_sum(rows: &[Row], digits: &[u64]) -> u128 {
+    digits.iter().zip(rows).map(|(&d, row)| d as u128 * row.denominator).sum()
+}
+
+/// The sum of d(i)*theta(i), the terms of odd rows subtracted, modulo the modulus.
+pub fn digit_residue(modulus: u64, rows: &[Row], digits: &[u64]) -> u64 {
+    let term = |(i, (&d, row)): (usize, (&u64, &Row))| {
+        let term = d as i128 * row.remainder as i128;
+        if i % 2 == 0 {
+            term
+        } else {
+            -term
+        }
+    };
+    digits.iter().zip(rows).enumerate().map(term).sum::<i128>().rem_euclid(modulus as i128) as u64
+}
+
+/// Every list of digits that is allowed.
+pub fn allowed_lists(rows: &[Row]) -> Vec<Vec<u64>> {
+    let mut lists = vec![vec![]];
+    for row in &rows[..rows.len() - 1] {
+        lists = lists
+            .into_iter()
+            .flat_map(|list| (0..=row.quotient as u64).map(move |d| [&list[..], &[d]].concat()))
+            .collect();
+        let length = lists[0].len();
+        lists.retain(|list| allowed(&rows[..=length], list));
+    }
+    lists
+}
+
+/// a*x mod M.
+pub fn multiple(modulus: u64, step: u64, x: u64) -> u64 {
+    (step as u128 * x as u128 % modulus as u128) as u64
 }
 
 /// A configuration (01: a rung): its count of points and its label, of which a regular one has only the index.

@@ -5,6 +5,10 @@ use Prim.Native.Nat.{ℕ}
 use Rattle.numbers.proofs.Checklists.{unrefused-new, refused-old}
 use Rattle.expansion.specs.declared.Table.{Table}
 use Rattle.expansion.specs.declared.Answer.{Answer}
+use Rattle.ostrowski.specs.declared.DigitsAnswer.{DigitsAnswer}
+use Rattle.ostrowski.specs.declared.NumberAnswer.{NumberAnswer}
+use Rattle.ostrowski.specs.declared.NumberAnswer.the-variants as number-variants
+use Rattle.ostrowski.specs.Answer.{refusal-of}
 use Rattle.segment.specs.declared.Regular.{Regular}
 use Rattle.segment.specs.declared.Fine.{Fine}
 use Rattle.segment.specs.declared.RegularAnswer.{RegularAnswer}
@@ -18,13 +22,33 @@ use Rattle.domain.specs.declared.DomainAnswer.{DomainAnswer}
 use Rattle.domain.specs.declared.DomainAnswer.the-variants as domain-variants
 use Rattle.segment.specs.declared.Verdict.{Verdict}
 use Rattle.domain.specs.Answer.{scan-refusal, domain-refusal}
-use Rattle.c_api.specs.Memory.{Delivered, verdict-number, regular-memory, fine-memory, scan-memory, domain-memory}
+use Rattle.c_api.specs.Memory.{Delivered, digits-memory, count-memory, number-memory, verdict-number, regular-memory, fine-memory, scan-memory, domain-memory}
 
 pub refused : (e : Answer) {old : Table} → (e .refusal ≡ 0 → ⊥) → Delivered e (e .refusal) old old
 refused e {old} h = record { returned = refl; left = sym (refused-old (e .refusal) (e .table) old h) }
 
 pub answered : (e : Answer) {old : Table} → e .refusal ≡ 0 → Delivered e 0 old (e .table)
 answered e {old} h = record { returned = sym h; left = sym (unrefused-new (e .table) old h) }
+
+-- ---- digits, residues and divisions
+
+module _ (a : DigitsAnswer) (old : List ℕ) (k : ℕ) where
+  pub digits-refused : (a .refusal ≡ 0 → ⊥) → (old ≡ digits-memory a old) × (k ≡ count-memory a k)
+  unfolding digits-memory count-memory
+  digits-refused h = (sym (refused-old (a .refusal) (a .digits) old h), sym (refused-old (a .refusal) (a .count) k h))
+
+  pub digits-answered : a .refusal ≡ 0 → (a .digits ≡ digits-memory a old) × (a .count ≡ count-memory a k)
+  unfolding digits-memory count-memory
+  digits-answered h = (sym (unrefused-new (a .digits) old h), sym (unrefused-new (a .count) k h))
+
+module _ {a : NumberAnswer} (old : ℕ) where
+  pub number-refused : {n : ℕ} → a ≡ number-variants.Refused n → (n ≡ refusal-of a) × (old ≡ number-memory a old)
+  unfolding refusal-of number-memory
+  number-refused e = rw e (refl, refl)
+
+  pub number-answered : {y : ℕ} → a ≡ number-variants.Found y → (0 ≡ refusal-of a) × (y ≡ number-memory a old)
+  unfolding refusal-of number-memory
+  number-answered e = rw e (refl, refl)
 
 -- ---- the searches
 

@@ -11,6 +11,10 @@ use Rattle.numbers.proofs.Checklists.{accepts, refuses, unrefused-new, refused-
 use Rattle.expansion.specs.Answer.{answer}
 use Rattle.expansion.specs.declared.Table.{Table}
 use Rattle.expansion.specs.declared.Answer.{Answer}
+use Rattle.ostrowski.proofs.Promises as ostrowski
+use Rattle.ostrowski.specs.declared.NumberAnswer.{NumberAnswer}
+use Rattle.ostrowski.specs.declared.NumberAnswer.the-variants as number-variants
+use Rattle.ostrowski.specs.Answer.{argument-checks, target-checks, argument-refusal, target-refusal, number-answer-with, digits-answer, residue-answer, divide-answer, refusal-of}
 use Rattle.geometry.specs.Segment.{Segment, segment}
 use Rattle.segment.specs.Accepted as segments
 use Rattle.segment.specs.Answer.{regular-answer-with, fine-answer-with, regular-answer, fine-answer, regular-refusal, fine-refusal}
@@ -18,7 +22,7 @@ use Rattle.parabola.specs.Parabola.{Parabola}
 use Rattle.domain.specs.Domain.{centred-of}
 use Rattle.domain.specs.declared.Domain.{Domain}
 use Rattle.domain.specs.Answer.{domain-checks, domain-number, answer-with, domain-answer, marks-of, marks-after, list-after, domain-refusal, scan-checks, scan-number, scan-answer-with, scan-answer, scan-list-after, scan-refusal}
-use Rattle.c_api.specs.Memory.{Delivered, verdict-number, regular-memory, fine-memory, scan-memory, domain-memory}
+use Rattle.c_api.specs.Memory.{Delivered, digits-memory, count-memory, number-memory, verdict-number, regular-memory, fine-memory, scan-memory, domain-memory}
 use Rattle.c_api.specs.Promise.{Promised}
 
 -- ---- the expansion
@@ -51,6 +55,20 @@ module _ (s : Segment) where
   unfolding scan-refusal scan-answer-with
   scan-number-is zero = refl
   scan-number-is (suc n) = refl
+
+number-is : (n y : ℕ) → refusal-of (number-answer-with n y) ≡ n
+unfolding refusal-of number-answer-with
+number-is zero y = refl
+number-is (suc n) y = refl
+
+number-unchanged : (r : NumberAnswer) (old : ℕ) {n : ℕ} → refusal-of r ≡ suc n → number-memory r old ≡ old
+unfolding refusal-of number-memory
+number-unchanged (number-variants.Refused k) old e = refl
+number-unchanged (number-variants.Found y) old e = absurd (omega (arith, e))
+
+number-left : {r : NumberAnswer} {y : ℕ} (old : ℕ) → r ≡ number-variants.Found y → number-memory r old ≡ y
+unfolding number-memory
+number-left old e = rw e refl
 
 domain-number-is : (p : Parabola) (n : ℕ) → domain-refusal (answer-with n p) ≡ n
 unfolding domain-refusal answer-with
@@ -89,11 +107,26 @@ unfolding domain-answer marks-after
 domain-marks d marks list e = unrefused-new _ marks (sym (domain-number-is (centred-of d) _) ∙ e)
 
 pub promised : Promised
-unfolding verdict-number regular-memory fine-memory scan-memory domain-memory regular-answer fine-answer scan-answer domain-answer segments.refusal scan-number domain-number
+unfolding verdict-number digits-memory count-memory number-memory residue-answer divide-answer argument-refusal target-refusal regular-memory fine-memory scan-memory domain-memory regular-answer fine-answer scan-answer domain-answer segments.refusal scan-number domain-number
 promised =
     record {
       expand-numbers = λ M a n m m′ us qs ks us′ qs′ ks′ z. delivered (answer M a) z (unrefused-new _ _ z);
       expand-unchanged = λ M a n k m m′ us qs ks us′ qs′ ks′ z. delivered (answer M a) z (refused-old _ _ _ (λ y. omega (arith, y, z)));
+      digits-unchanged = λ M a x n k old e.
+          let z : digits-answer M a x .refusal ≡ 0 → ⊥ = λ y. omega (arith, y, e) in (refused-old _ _ old z, refused-old _ _ k z);
+      digits-numbers = λ M a x k old e. (unrefused-new _ old e, unrefused-new _ k e);
+      residue-accepted = λ M a x. through (number-is _ _) (accepts (argument-checks M a x) (omega arith));
+      residue-refused = λ M a x n. through (number-is _ _) (refuses (argument-checks M a x) n);
+      divide-accepted = λ M a t. through (number-is _ _) (accepts (target-checks M a t) (omega arith));
+      divide-refused = λ M a t n. through (number-is _ _) (refuses (target-checks M a t) n);
+      residue-unchanged = λ M a x n old e. number-unchanged _ old e;
+      residue-left = λ M a x old h.
+          number-left old (ostrowski.promised .residue-answers M a x .found _ .1 (h, refl));
+      divide-unchanged = λ M a t n old e. number-unchanged _ old e;
+      divide-left = λ M a t old h.
+          let d = ostrowski.promised .divide-answers M a t in
+          let s = d .shown h in
+          rw (number-left old (d .found _ .1 (h, (s .1, s .2)))) (s .1, s .2);
       clear-is-1 = refl;
       possible-is-0 = refl;
       regular-accepted = λ M a b N w. through (regular-number (segment M a b N w) _) (accepts (segments.checks (segment M a b N w)) (omega arith));

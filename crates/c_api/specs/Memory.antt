@@ -6,6 +6,9 @@ use lib.IntN.{ℤ}
 use Rattle.numbers.specs.Checklist.{unless-refused}
 use Rattle.expansion.specs.declared.Table.{Table}
 use Rattle.expansion.specs.declared.Answer.{Answer}
+use Rattle.ostrowski.specs.declared.DigitsAnswer.{DigitsAnswer}
+use Rattle.ostrowski.specs.declared.NumberAnswer.{NumberAnswer}
+use Rattle.ostrowski.specs.declared.NumberAnswer.the-variants as number-variants
 use Rattle.segment.specs.declared.Verdict.{Verdict}
 use Rattle.segment.specs.declared.Verdict.the-variants.{Clear, Possible}
 use Rattle.segment.specs.declared.RegularAnswer.{RegularAnswer}
@@ -26,6 +29,18 @@ memory us qs ks n = record { remainders = us; denominators = qs; quotients = ks;
 pub record Delivered (answered : Answer) (number : ℕ) (old new : Table) : Type 0 where
   pub returned : number ≡ answered .refusal
   pub left : new ≡ unless-refused (answered .refusal) (answered .table) old
+
+-- the 88 places that a call leaves, and how many of them are digits: those of the answer, or what was there
+unfoldable pub digits-memory : DigitsAnswer → (old : List ℕ) → List ℕ
+digits-memory a old = unless-refused (a .refusal) (a .digits) old
+
+unfoldable pub count-memory : DigitsAnswer → (old : ℕ) → ℕ
+count-memory a old = unless-refused (a .refusal) (a .count) old
+
+-- the number that a residue or a division leaves: the one answered, or what was there
+unfoldable pub number-memory : NumberAnswer → (old : ℕ) → ℕ
+number-memory (number-variants.Refused n) old = old
+number-memory (number-variants.Found y) old = y
 
 -- clear is 1, possible 0
 unfoldable pub verdict-number : Verdict → ℕ

@@ -2,11 +2,14 @@
 use mathlib.Core.Path.{_≡_}
 use mathlib.Core.List.{List, [], _∷_}
 use mathlib.Core.Logic.{_↔_}
-use Prim.Native.Nat.{ℕ, suc}
+use Prim.Native.Nat.{ℕ, suc, _*_, _%_, _<_}
 use lib.IntN.{ℤ}
 use lib.ListN.{length}
-use Rattle.numbers.specs.Checklist.{All-hold}
+use Rattle.numbers.specs.Checklist.{All-hold, Refused-by}
 use Rattle.expansion.specs.Answer.{answer}
+use Rattle.expansion.specs.Rows.{period}
+use Rattle.ostrowski.specs.Answer.{digits-answer, residue-answer, divide-answer, refusal-of}
+use Rattle.ostrowski.specs.Promise as digits-promise
 use Rattle.geometry.specs.Segment.{segment}
 use Rattle.segment.specs.Answer.{regular-answer, fine-answer, regular-refusal, fine-refusal}
 use Rattle.segment.specs.Promise as segment-promise
@@ -21,16 +24,29 @@ use Rattle.domain.specs.Promise as domain-promise
 use Rattle.domain.specs.declared.ScanAnswer.the-variants as scan-variants
 use Rattle.domain.specs.declared.Domain.{Domain}
 use Rattle.domain.specs.declared.DomainAnswer.the-variants as domain-variants
-use Rattle.c_api.specs.Memory.{memory, Delivered, verdict-number, regular-memory, fine-memory, scan-memory, domain-of, domain-memory}
+use Rattle.c_api.specs.Memory.{memory, Delivered, digits-memory, count-memory, number-memory, verdict-number, regular-memory, fine-memory, scan-memory, domain-of, domain-memory}
 
--- searches, scans and domains return 0 exactly where all holds that is asked, of a scan or a domain also that there are places enough; another number exactly
--- where that number refuses, and then the memory is as it was. The expansion returns its answer's number
+-- residues, divisions, searches, scans and domains return 0 exactly where all holds that is asked, of a scan or a domain also that there are places enough; another number exactly
+-- where that number refuses, and then the memory is as it was. The expansion and digits return their answer's number
 pub record Promised : Type 0 where
   pub expand-numbers : (M a n m m′ : ℕ) (us qs ks us′ qs′ ks′ : List ℕ) → answer M a .refusal ≡ 0
       → Delivered (answer M a) n (memory us qs ks m) (memory us′ qs′ ks′ m′)
       ↔ ((n ≡ 0) × (us′ ≡ answer M a .table .remainders) × (qs′ ≡ answer M a .table .denominators) × (ks′ ≡ answer M a .table .quotients) × (m′ ≡ answer M a .table .last))
   pub expand-unchanged : (M a n k m m′ : ℕ) (us qs ks us′ qs′ ks′ : List ℕ) → answer M a .refusal ≡ suc k
       → Delivered (answer M a) n (memory us qs ks m) (memory us′ qs′ ks′ m′) ↔ ((n ≡ suc k) × (us′ ≡ us) × (qs′ ≡ qs) × (ks′ ≡ ks) × (m′ ≡ m))
+  pub digits-unchanged : (M a x n k : ℕ) (old : List ℕ) → digits-answer M a x .refusal ≡ suc n
+      → (digits-memory (digits-answer M a x) old ≡ old) × (count-memory (digits-answer M a x) k ≡ k)
+  pub digits-numbers : (M a x k : ℕ) (old : List ℕ) → digits-answer M a x .refusal ≡ 0
+      → (digits-memory (digits-answer M a x) old ≡ digits-answer M a x .digits) × (count-memory (digits-answer M a x) k ≡ digits-answer M a x .count)
+  pub residue-accepted : (M a x : ℕ) → (refusal-of (residue-answer M a x) ≡ 0) ↔ All-hold (digits-promise.Argument-asked M a x)
+  pub residue-refused : (M a x n : ℕ) → (refusal-of (residue-answer M a x) ≡ suc n) ↔ Refused-by (digits-promise.Argument-asked M a x) (suc n)
+  pub divide-accepted : (M a t : ℕ) → (refusal-of (divide-answer M a t) ≡ 0) ↔ All-hold (digits-promise.Target-asked M a t)
+  pub divide-refused : (M a t n : ℕ) → (refusal-of (divide-answer M a t) ≡ suc n) ↔ Refused-by (digits-promise.Target-asked M a t) (suc n)
+  pub residue-unchanged : (M a x n old : ℕ) → refusal-of (residue-answer M a x) ≡ suc n → number-memory (residue-answer M a x) old ≡ old
+  pub residue-left : (M a x old : ℕ) → All-hold (digits-promise.Argument-asked M a x) → number-memory (residue-answer M a x) old ≡ a * x % M
+  pub divide-unchanged : (M a t n old : ℕ) → refusal-of (divide-answer M a t) ≡ suc n → number-memory (divide-answer M a t) old ≡ old
+  pub divide-left : (M a t old : ℕ) → All-hold (digits-promise.Target-asked M a t)
+      → (number-memory (divide-answer M a t) old < period M a) × (a * number-memory (divide-answer M a t) old % M ≡ t)
   pub clear-is-1 : verdict-number Clear ≡ 1
   pub possible-is-0 : verdict-number Possible ≡ 0
   pub regular-accepted : (M a b N w : ℕ) → (regular-refusal (regular-answer M a b N w) ≡ 0) ↔ All-hold (segment-promise.Asked (segment M a b N w))

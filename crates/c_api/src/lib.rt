@@ -1,13 +1,14 @@
-// The calls as C functions: numbers in, the answer into the caller's memory. Each contract is by the definitions of the call itself.
-// A pointer that is passed points to as many numbers as its array type says, and no two of them overlap: that is C's side to keep. A list is
+// The calls as C functions: numbers in, the answer into the caller's memory. Each contract is by the definition of the call's answer, and by what that leaves in memory.
+// A pointer that is passed points to as many numbers as its array type says, or to one, and no two of them overlap: that is C's side to keep. A list is
 // two arguments in C, the pointer and after it a usize, the number of its places; it points to so many.
 ghost use mathlib.Core.Path.{_≡_};
 ghost use lib.ListN.{length};
 ghost use Rattle.expansion.specs.Answer.{answer};
+ghost use Rattle.ostrowski.specs.Answer.{digits-answer, residue-answer, divide-answer, refusal-of};
 ghost use Rattle.segment.specs.Answer.{regular-answer, fine-answer, regular-refusal, fine-refusal};
 ghost use Rattle.domain.specs.Answer.{scan-answer, scan-list-after, scan-refusal, domain-answer, domain-refusal, marks-after, list-after};
 ghost use Rattle.range.specs.Range.{start-of, count-of};
-ghost use Rattle.c_api.specs.Memory.{memory, Delivered, verdict-number, regular-memory, fine-memory, scan-memory, domain-of, domain-memory};
+ghost use Rattle.c_api.specs.Memory.{memory, Delivered, digits-memory, count-memory, number-memory, verdict-number, regular-memory, fine-memory, scan-memory, domain-of, domain-memory};
 
 // expansion::expand: returns 0 or the refusal. The table's columns and its last row's index are left as they were on a refusal.
 #[no_mangle]
@@ -37,6 +38,65 @@ pub extern "C" fn geyserdish_expand(
     *quotients = q;
     *last = table.last as u64;
     0
+}
+
+// ostrowski::digits: returns 0 or the refusal. The digits, and how many they are, are left as they were on a refusal.
+#[no_mangle]
+pub extern "C" fn geyserdish_digits(
+    modulus: u64,
+    step: u64,
+    argument: u64,
+    digits: &mut [u64; 88],
+    count: &mut u64,
+) -> u32
+    ensures { λ r. ⌜ r ≡ digits-answer modulus step argument .refusal ⌝ }
+    ensures { λ r. ⌜ now (digits .exit) ≡ digits-memory (digits-answer modulus step argument) (now (digits .entry)) ⌝ }
+    ensures { λ r. ⌜ now (count .exit) ≡ count-memory (digits-answer modulus step argument) (now (count .entry)) ⌝ }
+{
+    let answer = ostrowski::digits(modulus, step, argument);
+    let number = answer.refusal;
+    if number != 0 {
+        return number;
+    }
+    let d = answer.digits;
+    *digits = d;
+    *count = answer.count as u64;
+    0
+}
+
+// ostrowski::residue: returns 0 or the refusal. The residue is left as it was on a refusal.
+#[no_mangle]
+pub extern "C" fn geyserdish_residue(
+    modulus: u64,
+    step: u64,
+    argument: u64,
+    residue: &mut u64,
+) -> u32
+    ensures { λ r. ⌜ r ≡ refusal-of (residue-answer modulus step argument) ⌝ }
+    ensures { λ r. ⌜ now (residue .exit) ≡ number-memory (residue-answer modulus step argument) (now (residue .entry)) ⌝ }
+{
+    match ostrowski::residue(modulus, step, argument) {
+        ostrowski::NumberAnswer::Refused(number) => number,
+        ostrowski::NumberAnswer::Found(number) => {
+            *residue = number;
+            0
+        }
+    }
+}
+
+// ostrowski::divide: returns 0 or the refusal. The argument is left as it was on a refusal.
+#[no_mangle]
+pub extern "C" fn geyserdish_divide(modulus: u64, step: u64, target: u64, argument: &mut u64) -> u32
+    ensures { λ r. ⌜ r ≡ refusal-of (divide-answer modulus step target) ⌝ }
+    ensures { λ r. ⌜ now (argument .exit) ≡ number-memory (divide-answer modulus step target) (now (argument .entry)) ⌝ }
+{
+    match ostrowski::divide(modulus, step, target) {
+        ostrowski::NumberAnswer::Refused(number) => number,
+        ostrowski::NumberAnswer::Found(number) => {
+            *argument = number;
+            0
+        }
+    }
 }
 
 // segment::regular_search: returns 0 or the refusal. Shown: count, quotients, distance, argument, and 1 for clear or 0 for possible; left as it

@@ -2,16 +2,20 @@
 use mathlib.Core.Path.{_≡_, refl, _∙_, ap}
 use mathlib.Core.Logic.{Dec·and}
 use Prim.Native.Nat.{ℕ, _≤_}
-use native.Mathlib.Decide.{decLe, decLt}
+use native.Mathlib.Decide.{decLe, decLt, decDvd, ℕ-discrete}
 use native.Mathlib.Omega.{arith}
 use Rattle.numbers.specs.Checklist.{first-failing, unless-refused}
+use Rattle.numbers.specs.Divisors.{gcd-from, gcd}
 use Rattle.numbers.specs.Integers.{_modulo_}
+use Rattle.numbers.specs.Sums.{alternating-sum}
 use Rattle.numbers.specs.Unit.{ranged}
 use Rattle.numbers.specs.Lists.{zero-padded, filter-range, tabulate, overwrite-front}
-use Rattle.expansion.specs.Rows.{rows-from, expansion}
+use Rattle.expansion.specs.Rows.{rows-from, expansion, last, remainder-at, denominator-at, period}
 use Rattle.expansion.specs.Configurations.{regular-from, regular, parts-from, fine-from, fine}
 use Rattle.expansion.specs.Answer.{refusal, answer-with, answer}
 use Rattle.expansion.specs.Reached.{configurations-of, reached-in, reached}
+use Rattle.ostrowski.specs.Digits.{digits-over, digits-of, residue-of, arguments-of, argument-of}
+use Rattle.ostrowski.specs.Answer.{argument-refusal, target-refusal, digits-answer-with, number-answer-with, digits-answer, residue-answer, divide-answer}
 use Rattle.geometry.specs.Segment as geometry
 use Rattle.geometry.specs.Segment.{residue}
 use Rattle.segment.specs.Accepted as segments
@@ -28,7 +32,7 @@ use Rattle.text.specs.Text.{decimal-within, decimal}
 use Rattle.text.specs.Reading.{starts, takes-digit, digits-from, number-from, field-at, unsigned, opposite, signed-from, signed-field-at}
 use Rattle.job.specs.Reading.{rest-from, reading}
 use Rattle.job.specs.Output.{verdict-name, argument-lines, refused, report, printed-for, printed, output-with, output-of}
-use Rattle.examples.specs.Settled.{Regular-shows, Fine-shows, Example-1, Example-6, Example-7, Example-8, Example-9, Example-10, Example-11, Both-sides, Any-length, Windows-from-1, Settled}
+use Rattle.examples.specs.Settled.{Regular-shows, Fine-shows, Example-1, Example-6, Example-7, Example-8, Example-9, Example-10, Example-11, Both-sides, Any-length, Windows-from-1, Digits-and-back, Settled}
 
 example-1 : Example-1
 unfolding decLe decLt Dec·and ranged first-failing rows-from expansion zero-padded refusal answer-with answer regular-from regular parts-from fine-from fine
@@ -186,6 +190,59 @@ domains = (
   },
 )
 
+-- ---- digits, and the way back
+
+digits-and-back : Digits-and-back
+unfolding decLe decLt decDvd ℕ-discrete Dec·and ranged first-failing gcd-from gcd rows-from expansion last remainder-at denominator-at period zero-padded filter-range alternating-sum _modulo_ digits-over digits-of residue-of arguments-of argument-of argument-refusal target-refusal digits-answer-with number-answer-with digits-answer residue-answer divide-answer
+digits-and-back =
+    record {
+      of-15 = refl;
+      residue-15 = refl;
+      target-30 = refl;
+      of-44 = refl;
+      residue-44 = refl;
+      target-31 = refl;
+      of-16 = refl;
+      residue-16 = refl;
+      target-44 = refl;
+      of-0 = refl;
+      of-45 = refl;
+      residue-45 = refl;
+      target-45 = refl;
+      third-of-2 = refl;
+      third-residue-2 = refl;
+      third-of-3 = refl;
+      third-residue-3 = refl;
+      third-target-30 = refl;
+      third-target-31 = refl;
+      common-of-14 = refl;
+      common-residue-14 = refl;
+      common-of-15 = refl;
+      common-target-3 = refl;
+      common-target-4 = refl;
+      last-of-44 = refl;
+      last-residue-44 = refl;
+      last-target-1 = refl;
+      none-of-0 = refl;
+      none-residue-0 = refl;
+      none-of-1 = refl;
+      none-residue-1 = refl;
+      none-target-0 = refl;
+      none-target-1 = refl;
+      least-of-1 = refl;
+      largest-last = refl;
+      largest-residue = refl;
+      wide-product = refl;
+      every-place = refl;
+      every-place-residue = refl;
+      modulus-0 = refl;
+      modulus-1 = refl;
+      modulus-above = refl;
+      step-45 = refl;
+      step-46 = refl;
+      step-47 = refl;
+    }
+
 pub settled : Settled
 unfolding decLe decLt Dec·and ranged first-failing segments.refusal rows-from expansion regular-from regular parts-from fine-from fine configurations-of reached-in reached residue least-from argument distance verdict-at regular-shown fine-shown regular-answer-with fine-answer-with regular-answer fine-answer
 settled =
@@ -204,4 +261,5 @@ settled =
       both-sides = domains .2;
       any-length = domains .3;
       windows-from-1 = domains .4;
+      digits-and-back = digits-and-back;
     }

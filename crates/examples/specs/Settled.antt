@@ -1,7 +1,7 @@
 -- Document 01's settled examples marked P, as document 02's requests leave them, and examples of those requests, as one statement with a field for each.
 -- Assumes nothing: these are statements.
 use mathlib.Core.Path.{_≡_}
-use mathlib.Core.List.{List, [], _∷_}
+use mathlib.Core.List.{List, [], _∷_, _++_}
 use Prim.Native.Nat.{ℕ, _≤_, _<_}
 use lib.IntN.{ℤ, pos, negsuc}
 use lib.ListN.{replicate}
@@ -9,6 +9,9 @@ use Rattle.numbers.specs.Lists.{tabulate}
 use Rattle.expansion.specs.Rows.{expansion, remainders, denominators, quotients}
 use Rattle.expansion.specs.Configurations.{counts, regular, fine}
 use Rattle.expansion.specs.Answer.{answer}
+use Rattle.ostrowski.specs.Answer.{digits-answer, residue-answer, divide-answer}
+use Rattle.ostrowski.specs.declared.DigitsAnswer.{DigitsAnswer}
+use Rattle.ostrowski.specs.declared.NumberAnswer.the-variants as number-variants
 use Rattle.geometry.specs.Segment.{segment, hard-list}
 use Rattle.segment.specs.Answer.{regular-answer, fine-answer}
 use Rattle.segment.specs.declared.Verdict.the-variants.{Clear, Possible}
@@ -284,6 +287,75 @@ pub record Windows-from-1 : Type 0 where
   pub curve-and-above : domain-answer (J-with 16 (pos 1048577) 46) 0 ≡ domain-variants.Refused 5
   pub curve-alone : (places : ℕ) → domain-answer (J-with 16 (pos 1048577) 1) places ≡ domain-variants.Refused 6
 
+-- ---- digits of an argument, and the way back (2.4)
+
+-- an answer with these digits, so many
+abbrev pub digits-are : (digits : List ℕ) → (count : ℕ) → DigitsAnswer
+digits-are d m = record { digits = d; count = m; refusal = 0 }
+
+-- a refusal
+abbrev pub no-digits : (refusal : ℕ) → DigitsAnswer
+no-digits n = record { digits = replicate 88 0; count = 0; refusal = n }
+
+pub record Digits-and-back : Type 0 where
+  -- 45 and 14: 15 is 2·1 + 0·3 + 1·13 + 0·16, with the residue 2·14 - 0·3 + 1·2 - 0·1
+  pub of-15 : digits-answer 45 14 15 ≡ digits-are (2 ∷ 0 ∷ 1 ∷ 0 ∷ replicate 84 0) 4
+  pub residue-15 : residue-answer 45 14 15 ≡ number-variants.Found 30
+  pub target-30 : divide-answer 45 14 30 ≡ number-variants.Found 15
+  -- 44, the last argument, is 0·1 + 4·3 + 0·13 + 2·16, with the residue 0·14 - 4·3 + 0·2 - 2·1 modulo 45
+  pub of-44 : digits-answer 45 14 44 ≡ digits-are (0 ∷ 4 ∷ 0 ∷ 2 ∷ replicate 84 0) 4
+  pub residue-44 : residue-answer 45 14 44 ≡ number-variants.Found 31
+  -- the way back with rows of both parities
+  pub target-31 : divide-answer 45 14 31 ≡ number-variants.Found 44
+  -- 16 is q(3), and not 3 + 13, in which d(2) = k(3) stands over a digit that is not 0
+  pub of-16 : digits-answer 45 14 16 ≡ digits-are (0 ∷ 0 ∷ 0 ∷ 1 ∷ replicate 84 0) 4
+  pub residue-16 : residue-answer 45 14 16 ≡ number-variants.Found 44
+  pub target-44 : divide-answer 45 14 44 ≡ number-variants.Found 16
+  pub of-0 : digits-answer 45 14 0 ≡ digits-are (replicate 88 0) 4
+  -- at P, and at M
+  pub of-45 : digits-answer 45 14 45 ≡ no-digits 9
+  pub residue-45 : residue-answer 45 14 45 ≡ number-variants.Refused 9
+  pub target-45 : divide-answer 45 14 45 ≡ number-variants.Refused 10
+  -- 45 and 15, whose period is 3
+  pub third-of-2 : digits-answer 45 15 2 ≡ digits-are (2 ∷ replicate 87 0) 1
+  pub third-residue-2 : residue-answer 45 15 2 ≡ number-variants.Found 30
+  pub third-of-3 : digits-answer 45 15 3 ≡ no-digits 9
+  pub third-residue-3 : residue-answer 45 15 3 ≡ number-variants.Refused 9
+  pub third-target-30 : divide-answer 45 15 30 ≡ number-variants.Found 2
+  pub third-target-31 : divide-answer 45 15 31 ≡ number-variants.Refused 10
+  -- 45 and 42, whose greatest common divisor is 3, and the period 15: what is found is modulo 15 and not modulo 45
+  pub common-of-14 : digits-answer 45 42 14 ≡ digits-are (0 ∷ 14 ∷ replicate 86 0) 2
+  pub common-residue-14 : residue-answer 45 42 14 ≡ number-variants.Found 3
+  pub common-of-15 : digits-answer 45 42 15 ≡ no-digits 9
+  pub common-target-3 : divide-answer 45 42 3 ≡ number-variants.Found 14
+  pub common-target-4 : divide-answer 45 42 4 ≡ number-variants.Refused 10
+  -- 45 and 44: k(1) is 1, so that d(0) is always 0
+  pub last-of-44 : digits-answer 45 44 44 ≡ digits-are (0 ∷ 44 ∷ replicate 86 0) 2
+  pub last-residue-44 : residue-answer 45 44 44 ≡ number-variants.Found 1
+  pub last-target-1 : divide-answer 45 44 1 ≡ number-variants.Found 44
+  -- a step of 0: no digits, the argument 0 alone, the target 0 alone
+  pub none-of-0 : digits-answer 45 0 0 ≡ digits-are (replicate 88 0) 0
+  pub none-residue-0 : residue-answer 45 0 0 ≡ number-variants.Found 0
+  pub none-of-1 : digits-answer 45 0 1 ≡ no-digits 9
+  pub none-residue-1 : residue-answer 45 0 1 ≡ number-variants.Refused 9
+  pub none-target-0 : divide-answer 45 0 0 ≡ number-variants.Found 0
+  pub none-target-1 : divide-answer 45 0 1 ≡ number-variants.Refused 10
+  -- the least modulus and the largest; a product that no word holds
+  pub least-of-1 : digits-answer 2 1 1 ≡ digits-are (1 ∷ replicate 87 0) 1
+  pub largest-last : digits-answer 4611686018427387904 4611686018427387903 4611686018427387903 ≡ digits-are (0 ∷ 4611686018427387903 ∷ replicate 86 0) 2
+  pub largest-residue : residue-answer 4611686018427387904 4611686018427387903 4611686018427387903 ≡ number-variants.Found 1
+  pub wide-product : residue-answer 4611686018427387903 4611686018427387902 4611686018427387902 ≡ number-variants.Found 1
+  -- neighbouring Fibonacci numbers, which have all 88 digits: the argument is q(87)
+  pub every-place : digits-answer 2880067194370816120 1779979416004714189 1100087778366101931 ≡ digits-are (replicate 87 0 ++ (1 ∷ [])) 88
+  pub every-place-residue : residue-answer 2880067194370816120 1779979416004714189 1100087778366101931 ≡ number-variants.Found 2880067194370816119
+  -- 1 comes before 2, and both before 9 and 10
+  pub modulus-0 : digits-answer 0 45 45 ≡ no-digits 1
+  pub modulus-1 : residue-answer 1 45 45 ≡ number-variants.Refused 1
+  pub modulus-above : divide-answer 4611686018427387905 4611686018427387906 4611686018427387906 ≡ number-variants.Refused 1
+  pub step-45 : digits-answer 45 45 45 ≡ no-digits 2
+  pub step-46 : residue-answer 45 46 45 ≡ number-variants.Refused 2
+  pub step-47 : divide-answer 45 47 45 ≡ number-variants.Refused 2
+
 -- all of them
 pub record Settled : Type 0 where
   pub p1 : Example-1
@@ -300,3 +372,4 @@ pub record Settled : Type 0 where
   pub both-sides : Both-sides
   pub any-length : Any-length
   pub windows-from-1 : Windows-from-1
+  pub digits-and-back : Digits-and-back
