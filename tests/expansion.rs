@@ -7,12 +7,7 @@ mod reference;
 
 use c_api::ROWS;
 use harness::{Lent, Random, Run, SEED};
-use reference::{Row, LARGEST};
-
-/// The refusal by the table of document 01, 0 where there is none.
-fn refusal(modulus: u64, step: u64) -> u32 {
-    reference::refusal(&[reference::modulus_outside(modulus), step >= modulus])
-}
+use reference::{pair_refusal as refusal, Row, LARGEST};
 
 /// Compares one call with the reference; says what differs.
 fn compare(modulus: u64, step: u64) -> Result<(), String> {

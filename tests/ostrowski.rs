@@ -13,7 +13,7 @@ const PLACES: usize = 88;
 
 /// 1 or 2 as the expansion, or the call's own number where its condition applies; 0 where none does.
 fn refusal(modulus: u64, step: u64, own: u32, applies: impl FnOnce() -> bool) -> u32 {
-    match reference::refusal(&[reference::modulus_outside(modulus), step >= modulus]) {
+    match reference::pair_refusal(modulus, step) {
         0 if applies() => own,
         number => number,
     }
@@ -97,14 +97,14 @@ fn compare_target(modulus: u64, step: u64, target: u64, expected: Option<u64>) -
 
 /// The rows of a pair; where it is refused, a single row with the denominator 1, which stands for none.
 fn rows_of(modulus: u64, step: u64) -> Vec<Row> {
-    if reference::modulus_outside(modulus) || step >= modulus {
+    if reference::pair_refusal(modulus, step) != 0 {
         vec![Row { remainder: 0, denominator: 1, quotient: 0 }]
     } else {
         reference::rows(modulus, step)
     }
 }
 
-/// An argument, its residue as a target, and the way back.
+/// An argument, and its residue as a target.
 fn there_and_back(modulus: u64, step: u64, x: u64, rows: &[Row]) -> Result<usize, String> {
     compare_argument(modulus, step, x, rows, None)?;
     if refusal(modulus, step, 9, || x as u128 >= rows.last().unwrap().denominator) != 0 {

@@ -37,6 +37,11 @@ pub fn modulus_outside(modulus: u64) -> bool {
     !(2..=LARGEST).contains(&modulus)
 }
 
+/// The refusal of a modulus and a step, 0 where there is none.
+pub fn pair_refusal(modulus: u64, step: u64) -> u32 {
+    refusal(&[modulus_outside(modulus), step >= modulus])
+}
+
 /// A row of the expansion: theta(i), q(i), k(i+1).
 pub struct Row {
     pub remainder: u128,

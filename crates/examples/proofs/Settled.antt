@@ -32,7 +32,7 @@ use Rattle.text.specs.Text.{decimal-within, decimal}
 use Rattle.text.specs.Reading.{starts, takes-digit, digits-from, number-from, field-at, unsigned, opposite, signed-from, signed-field-at}
 use Rattle.job.specs.Reading.{rest-from, reading}
 use Rattle.job.specs.Output.{verdict-name, argument-lines, refused, report, printed-for, printed, output-with, output-of}
-use Rattle.examples.specs.Settled.{Regular-shows, Fine-shows, Example-1, Example-6, Example-7, Example-8, Example-9, Example-10, Example-11, Both-sides, Any-length, Windows-from-1, Digits-and-back, Settled}
+use Rattle.examples.specs.Settled.{Regular-shows, Fine-shows, Example-1, Example-6, Example-7, Example-8, Example-9, Example-10, Example-11, Both-sides, Any-length, Windows-from-1, Digits-and-division, Settled}
 
 example-1 : Example-1
 unfolding decLe decLt Dec·and ranged first-failing rows-from expansion zero-padded refusal answer-with answer regular-from regular parts-from fine-from fine
@@ -190,11 +190,11 @@ domains = (
   },
 )
 
--- ---- digits, and the way back
+-- ---- digits and modular division
 
-digits-and-back : Digits-and-back
+digits-and-division : Digits-and-division
 unfolding decLe decLt decDvd ℕ-discrete Dec·and ranged first-failing gcd-from gcd rows-from expansion last remainder-at denominator-at period zero-padded filter-range alternating-sum _modulo_ digits-over digits-of residue-of arguments-of argument-of argument-refusal target-refusal digits-answer-with number-answer-with digits-answer residue-answer divide-answer
-digits-and-back =
+digits-and-division =
     record {
       of-15 = refl;
       residue-15 = refl;
@@ -261,5 +261,5 @@ settled =
       both-sides = domains .2;
       any-length = domains .3;
       windows-from-1 = domains .4;
-      digits-and-back = digits-and-back;
+      digits-and-division = digits-and-division;
     }

@@ -287,7 +287,7 @@ pub record Windows-from-1 : Type 0 where
   pub curve-and-above : domain-answer (J-with 16 (pos 1048577) 46) 0 ≡ domain-variants.Refused 5
   pub curve-alone : (places : ℕ) → domain-answer (J-with 16 (pos 1048577) 1) places ≡ domain-variants.Refused 6
 
--- ---- digits of an argument, and the way back (2.4)
+-- ---- digits of an argument, and modular division (2.4)
 
 -- an answer with these digits, so many
 abbrev pub digits-are : (digits : List ℕ) → (count : ℕ) → DigitsAnswer
@@ -297,7 +297,7 @@ digits-are d m = record { digits = d; count = m; refusal = 0 }
 abbrev pub no-digits : (refusal : ℕ) → DigitsAnswer
 no-digits n = record { digits = replicate 88 0; count = 0; refusal = n }
 
-pub record Digits-and-back : Type 0 where
+pub record Digits-and-division : Type 0 where
   -- 45 and 14: 15 is 2·1 + 0·3 + 1·13 + 0·16, with the residue 2·14 - 0·3 + 1·2 - 0·1
   pub of-15 : digits-answer 45 14 15 ≡ digits-are (2 ∷ 0 ∷ 1 ∷ 0 ∷ replicate 84 0) 4
   pub residue-15 : residue-answer 45 14 15 ≡ number-variants.Found 30
@@ -305,7 +305,7 @@ pub record Digits-and-back : Type 0 where
   -- 44, the last argument, is 0·1 + 4·3 + 0·13 + 2·16, with the residue 0·14 - 4·3 + 0·2 - 2·1 modulo 45
   pub of-44 : digits-answer 45 14 44 ≡ digits-are (0 ∷ 4 ∷ 0 ∷ 2 ∷ replicate 84 0) 4
   pub residue-44 : residue-answer 45 14 44 ≡ number-variants.Found 31
-  -- the way back with rows of both parities
+  -- a division with rows of both parities
   pub target-31 : divide-answer 45 14 31 ≡ number-variants.Found 44
   -- 16 is q(3), and not 3 + 13, in which d(2) = k(3) stands over a digit that is not 0
   pub of-16 : digits-answer 45 14 16 ≡ digits-are (0 ∷ 0 ∷ 0 ∷ 1 ∷ replicate 84 0) 4
@@ -372,4 +372,4 @@ pub record Settled : Type 0 where
   pub both-sides : Both-sides
   pub any-length : Any-length
   pub windows-from-1 : Windows-from-1
-  pub digits-and-back : Digits-and-back
+  pub digits-and-division : Digits-and-division

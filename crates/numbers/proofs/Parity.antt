@@ -2,34 +2,34 @@
 -- one row to the next what is added and what is taken away change places. Assumes nothing.
 use mathlib.Core.Path.{_≡_, refl, sym, _∙_}
 use mathlib.Core.Bool.{Bool, true, false, not, cond, false≢true}
+use mathlib.Core.Logic.{_↔_}
 use Prim.Native.Nat.{ℕ, zero, suc, _+_, _*_, _%_}
 use native.Mathlib.Nat.{suc-mod}
 use native.Mathlib.Omega.{arith}
+use Rattle.numbers.specs.Parity.{is-odd}
+use Rattle.numbers.specs.Promise.{Parity-correct}
 use Rattle.numbers.proofs.Congruences.{Congruent, equals, flip, chain, plus, times}
-
-abbrev pub odd : ℕ → Bool
-odd zero = false
-odd (suc n) = not (odd n)
 
 -- ---- the parity of a number
 
-remainder-by-2 : (n : ℕ) → n % 2 ≡ cond (odd n) 1 0
+remainder-by-2 : (n : ℕ) → n % 2 ≡ cond (is-odd n) 1 0
 remainder-by-2 zero = refl
-remainder-by-2 (suc n) = suc-mod n 2 ∙ rw (remainder-by-2 n) (of (odd n))
+remainder-by-2 (suc n) = suc-mod n 2 ∙ rw (remainder-by-2 n) (of (is-odd n))
   where
     of : (b : Bool) → suc (cond b 1 0) % 2 ≡ cond (not b) 1 0
     of false = refl
     of true = refl
 
-by-remainder : (b : Bool) {k : ℕ} → k ≡ cond b 1 0 → (k ≡ 0 → b ≡ false) × ((k ≡ 0 → ⊥) → b ≡ true)
-by-remainder false e = (λ z. refl, λ n. absurd (n e))
-by-remainder true e = (λ z. absurd (omega (arith, z, e)), λ n. refl)
+pub parity-correct : (n : ℕ) → Parity-correct n
+parity-correct n = record { even = even (is-odd n) (remainder-by-2 n); odd = odd (is-odd n) (remainder-by-2 n) }
+  where
+    even : (b : Bool) {k : ℕ} → k ≡ cond b 1 0 → (b ≡ false) ↔ (k ≡ 0)
+    even false e = (λ f. e, λ z. refl)
+    even true e = (λ f. absurd (false≢true (sym f)), λ z. absurd (omega (arith, e, z)))
 
-pub is-even : (n : ℕ) → n % 2 ≡ 0 → odd n ≡ false
-is-even n = by-remainder (odd n) (remainder-by-2 n) .0
-
-pub is-odd : (n : ℕ) → (n % 2 ≡ 0 → ⊥) → odd n ≡ true
-is-odd n = by-remainder (odd n) (remainder-by-2 n) .1
+    odd : (b : Bool) {k : ℕ} → k ≡ cond b 1 0 → (b ≡ true) ↔ (k ≡ 1)
+    odd false e = (λ f. absurd (false≢true f), λ z. absurd (omega (arith, e, z)))
+    odd true e = (λ f. e, λ z. refl)
 
 -- ---- congruences
 

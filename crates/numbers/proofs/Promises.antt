@@ -13,6 +13,7 @@ use Rattle.numbers.specs.Promise.{Conditions-correct, Selection-correct,
 use Rattle.numbers.proofs.Checklists.{refuses, accepts}
 use Rattle.numbers.proofs.Integers.{mod-below, mod-multiple}
 use Rattle.numbers.proofs.Selections.{filter-none, filter-hit, filter-miss}
+use Rattle.numbers.proofs.Parity.{parity-correct}
 use Rattle.numbers.proofs.Pieces.{joined-none, pieces-correct}
 use Rattle.numbers.proofs.Buffers.{front-correct}
 
@@ -67,6 +68,7 @@ promised =
       sums =
           unfold sum alternating-sum in
           record { no-term = λ f i. refl; term-more = λ f n i. refl; alternating-none = λ f i. refl; alternating-more = λ f n i. refl };
+      parity = parity-correct;
       pieces = pieces-correct;
       buffers = buffers-correct;
     }

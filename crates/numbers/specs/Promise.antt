@@ -5,12 +5,13 @@ use mathlib.Core.Path.{_≡_}
 use mathlib.Core.Bool.{Bool, true, false}
 use mathlib.Core.List.{List, [], _∷_, _++_, List·Memᴰ}
 use mathlib.Core.Logic.{_↔_}
-use Prim.Native.Nat.{ℕ, suc, _+_, _-_, _^_, _≤_, _<_, _∣_}
+use Prim.Native.Nat.{ℕ, suc, _+_, _-_, _%_, _^_, _≤_, _<_, _∣_}
 use lib.IntN.{ℤ, pos, negsuc, _+ℤ_, _-ℤ_, _*ℤ_}
 use lib.ListN.{length, getD}
 use Rattle.numbers.specs.Checklist.{Condition, Check, condition, check, conditions, first-failing, All-hold, Refused-by, Numbered, unless-refused}
 use Rattle.numbers.specs.Integers.{_modulo_}
 use Rattle.numbers.specs.Lists.{filter-range, count-if, tabulate, joined, overwrite-front, place-after}
+use Rattle.numbers.specs.Parity.{is-odd}
 use Rattle.numbers.specs.Sums.{sum, alternating-sum}
 
 -- ---- refusals
@@ -73,6 +74,13 @@ pub record Sequences-correct : Type 0 where
   pub no-list : (f : ℕ → List ℕ) (i : ℕ) → joined f 0 i ≡ []
   pub list-more : (f : ℕ → List ℕ) (n i : ℕ) → joined f (suc n) i ≡ f i ++ joined f n (suc i)
 
+-- ---- parity
+
+-- odd is what leaves 1 when divided by 2
+pub record Parity-correct (n : ℕ) : Type 0 where
+  pub even : (is-odd n ≡ false) ↔ (n % 2 ≡ 0)
+  pub odd : (is-odd n ≡ true) ↔ (n % 2 ≡ 1)
+
 -- ---- sums
 
 -- f(i) + f(i+1) + f(i+2) and so on, and f(i) - f(i+1) + f(i+2) and so on
@@ -132,5 +140,6 @@ pub record Promised : Type 1 where
   pub selections : (property : ℕ → Bool) → Selection-correct property
   pub sequences : Sequences-correct
   pub sums : Sums-correct
+  pub parity : (n : ℕ) → Parity-correct n
   pub pieces : (start : ℕ → ℕ) (pieces total : ℕ) → Starts start pieces total → Pieces-correct start pieces total
   pub buffers : Buffers-correct

@@ -1,4 +1,4 @@
-// Mathematics that the other layers share: remainders of numbers and of integers, divisors, sums, Fibonacci numbers, lists, pieces of a stretch, the theory of
+// Mathematics that the other layers share: remainders of numbers and of integers, divisors, parity, sums, Fibonacci numbers, lists, pieces of a stretch, the theory of
 // a partly written buffer, refusals as checklists; and five calls on numbers and integers.
 ghost use mathlib.Core.Path.{_≡_};
 ghost use Prim.Native.Nat.{_-_, _%_, min};

@@ -1,24 +1,24 @@
--- The loop of `divide`: at each row the target is taken difference-of-sums, and every number fits. What is answered at its end. Assumes nothing.
+-- The loop of `divide`: at each row it stands in a partial division, and every number fits. What is answered at its end. Assumes nothing.
 use mathlib.Core.Path.{_≡_, sym, _∙_}
 use Prim.Native.Nat.{ℕ, _+_, _-_, _*_, _/_, _%_, _^_, _≤_, _<_}
 use native.Mathlib.Nat.{pos-of-ne-zero, mod-lt, mod-eq-zero-of-dvd, dvd-of-mod-eq-zero}
 use native.Mathlib.Numerals.{add-one}
 use native.Mathlib.Omega.{arith}
 use Rattle.numbers.specs.Divisors.{gcd}
-use Rattle.numbers.proofs.Parity.{is-even, is-odd}
+use Rattle.numbers.proofs.Parity.{parity-correct}
 use Rattle.expansion.specs.Rows.{period}
 use Rattle.expansion.proofs.Promises as expansion
 use Rattle.expansion.proofs.Laws.{not-last}
 use Rattle.ostrowski.specs.Answer.{divide-answer}
 use Rattle.ostrowski.specs.declared.NumberAnswer.the-variants.{Refused, Found}
-use Rattle.ostrowski.proofs.Apart.{Taken-apart, difference-of-sums, start, next, next-below, period-is, end-below, period-positive, even-solves, odd-solves, rest-is}
+use Rattle.ostrowski.proofs.Division.{Partial-division, difference-of-sums, start, next, next-below, period-is, end-below, period-positive, even-solves, odd-solves, rest-is}
 use Rattle.ostrowski.proofs.Refusals.{Accepted, last-refused, none-refused}
 use Rattle.ostrowski.proofs.Answers.{divide-answer-correct}
 
 pub record Dividing (M a t b u p q rest same other row : ℕ) : Type 0 where
   pub accepted : Accepted M a
   pub target : t < M
-  pub taken : Taken-apart M a t row b u p q rest same other
+  pub taken : Partial-division M a t row b u p q rest same other
 
 pub dividing-first : {M a t : ℕ} → Accepted M a → t < M → Dividing M a t M a 0 1 t 0 0 0
 dividing-first {t = t} h l = record { accepted = h; target = l; taken = start (h .small) t l }
@@ -96,8 +96,8 @@ module _ {M a t b u p q rest same other row : ℕ} (d : Dividing M a t b u p q r
 
       pub even-answer : row % 2 ≡ 0 → Found (difference-of-sums q same other) ≡ divide-answer M a t
       even-answer e =
-          rw end (answered (difference-of-sums (period M a) same other) (mod-lt _ (period-positive small)) (even-solves small (d .taken) z (d .target) (is-even row e)))
+          rw end (answered (difference-of-sums (period M a) same other) (mod-lt _ (period-positive small)) (even-solves small (d .taken) z (d .target) (parity-correct row .even .1 e)))
 
       pub odd-answer : (row % 2 ≡ 0 → ⊥) → Found (difference-of-sums q other same) ≡ divide-answer M a t
       odd-answer e =
-          rw end (answered (difference-of-sums (period M a) other same) (mod-lt _ (period-positive small)) (odd-solves small (d .taken) z (d .target) (is-odd row e)))
+          rw end (answered (difference-of-sums (period M a) other same) (mod-lt _ (period-positive small)) (odd-solves small (d .taken) z (d .target) (parity-correct row .odd .1 (omega (arith, e, mod-lt row {m = 2} (omega arith))))))

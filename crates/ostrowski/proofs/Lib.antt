@@ -1,6 +1,6 @@
 mod Writing
 mod Residues
-mod Apart
+mod Division
 mod Targets
 mod Refusals
 mod Answers

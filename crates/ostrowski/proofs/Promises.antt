@@ -1,4 +1,4 @@
--- All that is promised of digits, residues and the way back. Assumes nothing.
+-- All that is promised of digits, residues and modular division. Assumes nothing.
 use mathlib.Core.Path.{_≡_, refl, sym, _∙_, ap}
 use Prim.Native.Nat.{ℕ, _<_}
 use Rattle.expansion.specs.Rows.{period}
@@ -24,14 +24,14 @@ module _ (M a x : ℕ) (small : a < M) (within : x < period M a) where
 
 -- where one finds a number, all holds that is asked of the other
 module _ (M a x t : ℕ) where
-  there : residue-answer M a x ≡ Found t → divide-answer M a t ≡ Found x
-  there e =
+  divides : residue-answer M a x ≡ Found t → divide-answer M a t ≡ Found x
+  divides e =
       let h = residue-answer-correct M a x .found t .0 e in
       let p = h .0 in
       divide-answer-correct M a t .found x .1 ((p .0, (p .1 .0, (target-correct M a (p .1 .0) t .anywhere x (sym (h .1)), tt))), (p .1 .1 .0, sym (h .1)))
 
-  back : divide-answer M a t ≡ Found x → residue-answer M a x ≡ Found t
-  back e =
+  multiplies : divide-answer M a t ≡ Found x → residue-answer M a x ≡ Found t
+  multiplies e =
       let h = divide-answer-correct M a t .found x .0 e in
       let p = h .0 in
       residue-answer-correct M a x .found t .1 ((p .0, (p .1 .0, (h .1 .0, tt))), sym (h .1 .1))
@@ -46,6 +46,6 @@ promised =
       digits-answers = digits-answer-correct;
       residue-answers = residue-answer-correct;
       divide-answers = divide-answer-correct;
-      undone = λ M a x t. (there M a x t, back M a x t);
+      inverse = λ M a x t. (divides M a x t, multiplies M a x t);
       numbers = λ n. (refl, refl, refl, refl);
     }

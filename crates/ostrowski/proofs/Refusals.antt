@@ -1,5 +1,5 @@
 -- When each refusal is given: 1 and 2 as in the expansion, then 9 or 10. Assumes nothing.
-use mathlib.Core.Path.{_≡_, refl, sym}
+use mathlib.Core.Path.{_≡_, refl, sym, _∙_}
 use mathlib.Core.List.{List, [], _∷_}
 use mathlib.Core.Logic.{_↔_, inl, inr}
 use Prim.Native.Nat.{ℕ, _^_, _≤_, _<_}
@@ -7,6 +7,7 @@ use native.Mathlib.Omega.{arith}
 use Rattle.numbers.specs.Checklist.{Condition, condition, conditions, All-hold, Refused-by}
 use Rattle.numbers.proofs.Checklists.{accepts, gives, refused-before}
 use Rattle.expansion.specs.Answer.{checks, refusal}
+use Rattle.expansion.proofs.Promises as expansion
 use Rattle.ostrowski.specs.Answer.{argument-checks, target-checks, argument-refusal, target-refusal}
 use Rattle.ostrowski.specs.Promise.{Argument-asked, Target-asked}
 
@@ -48,8 +49,9 @@ pub record Accepted (M a : ℕ) : Type 0 where
   pub small : a < M
 
 pub accepts-both : {M a : ℕ} → refusal M a ≡ 0 → Accepted M a
-unfolding refusal
-accepts-both {M} {a} e = let h = accepts (checks M a) (omega arith) .0 e in record { low = h .0 .0; most = h .0 .1; small = h .1 .0 }
+accepts-both {M} {a} e =
+    let h = expansion.promised .answers M a .accepted .0 (sym (expansion.promised .refusals M a) ∙ e) in
+    record { low = h .0; most = h .1; small = h .2 }
 
 module _ {M a : ℕ} (h : Accepted M a) where
   -- and the third condition does not hold

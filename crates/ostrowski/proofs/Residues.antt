@@ -9,9 +9,10 @@ use lib.IntN.{pos, _-ℤ_}
 use lib.ListN.{getD}
 use Rattle.numbers.specs.Integers.{_modulo_}
 use Rattle.numbers.specs.Sums.{sum, alternating-sum}
+use Rattle.numbers.specs.Parity.{is-odd}
 use Rattle.numbers.proofs.Congruences.{equals, chain, plus, remainder}
 use Rattle.numbers.proofs.Integers.{gain, loss, split, number, minus, mod-is}
-use Rattle.numbers.proofs.Parity.{odd, By-parity, even-congruent, nothing, returned, added, repeated, restated}
+use Rattle.numbers.proofs.Parity.{By-parity, even-congruent, nothing, returned, added, repeated, restated}
 use Rattle.expansion.specs.Rows.{last, remainder-at, denominator-at, period}
 use Rattle.expansion.proofs.Promises as expansion
 use Rattle.expansion.proofs.Laws.{row-by-parity}
@@ -25,13 +26,13 @@ term M a d i = getD d i 0 * remainder-at M a i
 module _ (M a : ℕ) (small : a < M) (d : List ℕ) where
   -- the rows from i on
   from-row : (n i : ℕ) → i + n ≤ last M a
-      → let z = alternating-sum (term M a d) n i in By-parity M (odd i) (a * sum (λ j. getD d j 0 * denominator-at M a j) n i) (gain z) (loss z)
+      → let z = alternating-sum (term M a d) n i in By-parity M (is-odd i) (a * sum (λ j. getD d j 0 * denominator-at M a j) n i) (gain z) (loss z)
   unfolding sum alternating-sum
-  from-row zero i l = restated (a * 0) 0 0 (nothing (odd i)) (omega arith) refl
+  from-row zero i l = restated (a * 0) 0 0 (nothing (is-odd i)) (omega arith) refl
   from-row (suc n) i l =
       let z = alternating-sum (term M a d) n (suc i) in
       restated (a * (getD d i 0 * denominator-at M a i + sum (λ j. getD d j 0 * denominator-at M a j) n (suc i))) (gain (pos (term M a d i) -ℤ z)) (loss (pos (term M a d i) -ℤ z))
-      (added (repeated (getD d i 0) (row-by-parity M a small i (omega arith))) (returned (odd i) (from-row n (suc i) (omega arith))))
+      (added (repeated (getD d i 0) (row-by-parity M a small i (omega arith))) (returned (is-odd i) (from-row n (suc i) (omega arith))))
       (omega arith) (omega (arith, minus (number (term M a d i)) (split z) .balance))
 
   residue-is : alternating-sum (term M a d) (last M a) 0 modulo M ≡ a * sum-below M a d (last M a) % M

@@ -14,7 +14,7 @@ use Rattle.expansion.specs.Rows.{last, period}
 use Rattle.expansion.proofs.Promises as expansion
 use Rattle.ostrowski.specs.Digits.{arguments-of, argument-of}
 use Rattle.ostrowski.specs.Promise.{Target-correct}
-use Rattle.ostrowski.proofs.Apart.{Taken-apart, start, next, solution, rest-is, residue-possible}
+use Rattle.ostrowski.proofs.Division.{Partial-division, start, next, solution, rest-is, residue-possible}
 
 module _ (M a : ℕ) (small : a < M) where
   -- two arguments below the period that have the same residue are one
@@ -36,8 +36,8 @@ module _ (M a : ℕ) (small : a < M) where
         let o = filter-only (λ y. eqb (a * y % M) t) (period M a) 0 (argument-of M a t) (member-at 0 (arguments-of M a t) 0 (omega (arith, p .1))) in
         unique x (argument-of M a t) l (omega (arith, o .1)) (e ∙ sym (eqb-true (a * argument-of M a t % M) t (o .2)))
 
-    -- the target taken apart over the rows below i
-    record Apart-at (i : ℕ) : Type 0 where
+    -- the target divided over the rows below i
+    record Divided-to (i : ℕ) : Type 0 where
       pub before : ℕ
       pub remainder : ℕ
       pub denominator-before : ℕ
@@ -45,22 +45,22 @@ module _ (M a : ℕ) (small : a < M) where
       pub rest : ℕ
       pub same : ℕ
       pub other : ℕ
-      pub taken : Taken-apart M a t i before remainder denominator-before denominator rest same other
+      pub taken : Partial-division M a t i before remainder denominator-before denominator rest same other
 
-    taken-at : {i b u p q rest same other : ℕ} → Taken-apart M a t i b u p q rest same other → Apart-at i
-    taken-at {b = b} {u} {p} {q} {rest} {same} {other} w =
+    divided-at : {i b u p q rest same other : ℕ} → Partial-division M a t i b u p q rest same other → Divided-to i
+    divided-at {b = b} {u} {p} {q} {rest} {same} {other} w =
         record { before = b; remainder = u; denominator-before = p; denominator = q; rest = rest; same = same; other = other; taken = w }
 
     module _ (below : t < M) where
-      rows-taken : (i : ℕ) → i ≤ last M a → Apart-at i
-      rows-taken zero l = taken-at (start small t below)
-      rows-taken (suc i) l =
-          let w = rows-taken i (omega arith) .taken in
-          taken-at (next small w (omega (arith, w .drawn .remainder-is, expansion.promised .rows M a small .not-zero i l)))
+      divided-to : (i : ℕ) → i ≤ last M a → Divided-to i
+      divided-to zero l = divided-at (start small t below)
+      divided-to (suc i) l =
+          let w = divided-to i (omega arith) .taken in
+          divided-at (next small w (omega (arith, w .drawn .remainder-is, expansion.promised .rows M a small .not-zero i l)))
 
       argument-found : gcd a M ∣ t → (x : ℕ) × (x < period M a) × (a * x % M ≡ t)
       argument-found d =
-          let w = rows-taken (last M a) (omega arith) .taken in
+          let w = divided-to (last M a) (omega arith) .taken in
           let z = w .drawn .remainder-is ∙ expansion.promised .rows M a small .last-remainder in
           let f = solution small w z below in
           let r = rest-is small w z below ∙ mod-eq-zero-of-dvd (gcd a M) d in

@@ -1,4 +1,4 @@
--- What is promised of digits, residues and the way back, with the letters of documents 01 and 02: M the modulus, a the step, P the period; theta(i), q(i) and k(i+1)
+-- What is promised of digits, residues and modular division (02: the way back), with the letters of documents 01 and 02: M the modulus, a the step, P the period; theta(i), q(i) and k(i+1)
 -- the remainder, denominator and quotient of row i, m the last row; x an argument, d(i) its digits, t a target. `Promised`, at the end, says for which numbers each
 -- record holds; proofs/Promises.antt proves it.
 -- Assumes nothing: these are statements.
@@ -49,7 +49,7 @@ pub record Digits-correct (M a x : ℕ) : Type 0 where
 abbrev pub List-correct : (M a : ℕ) → (d : List ℕ) → Type 0
 List-correct M a d = (x : ℕ) × (x < period M a) × Sums-to M a d x × (digits-of M a x ≡ d)
 
--- ---- the way back
+-- ---- modular division
 
 -- a target t: an argument below P has it as its residue exactly where t is below M and a multiple of gcd(a, M), and then exactly one has
 pub record Target-correct (M a t : ℕ) : Type 0 where
@@ -101,7 +101,7 @@ pub record Promised : Type 0 where
   pub digits-answers : (M a x : ℕ) → Digits-answer-correct M a x (digits-answer M a x)
   pub residue-answers : (M a x : ℕ) → Residue-answer-correct M a x
   pub divide-answers : (M a t : ℕ) → Divide-answer-correct M a t
-  -- residue and divide undo each other
-  pub undone : (M a x t : ℕ) → (residue-answer M a x ≡ Found t) ↔ (divide-answer M a t ≡ Found x)
+  -- residue and divide are inverse to each other
+  pub inverse : (M a x t : ℕ) → (residue-answer M a x ≡ Found t) ↔ (divide-answer M a t ≡ Found x)
   -- the numbers of the two cases of an answer
   pub numbers : (n : ℕ) → (refusal-of (Refused n) ≡ n) × (refusal-of (Found n) ≡ 0) × (found-of (Refused n) ≡ 0) × (found-of (Found n) ≡ n)

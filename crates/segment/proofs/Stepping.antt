@@ -7,6 +7,7 @@ use mathlib.Mathlib.Data.Bool.Basic.{dichotomy}
 use Prim.Native.Nat.{ℕ, zero, suc, _+_, _-_, _<_}
 use native.Mathlib.Nat.{le-refl, add-zero, add-suc}
 use native.Mathlib.Omega.{arith}
+use Rattle.numbers.specs.Parity.{is-odd}
 use Rattle.expansion.specs.Configurations.{configuration}
 use Rattle.expansion.specs.Reached.{Search, reached}
 use Rattle.expansion.specs.Reached.Search.{regular, fine}
@@ -16,7 +17,7 @@ use Rattle.geometry.specs.Segment.{Segment, residue}
 use Rattle.geometry.specs.TwoLength.{Least}
 use Rattle.geometry.proofs.Laws.{short-positive, least}
 use Rattle.segment.specs.Accepted.{Accepted}
-use Rattle.segment.specs.State.{points, first-state, next, odd-after, state-after}
+use Rattle.segment.specs.State.{points, first-state, next, state-after}
 use Rattle.segment.specs.Promise.{At-configuration, Steps-correct}
 use Rattle.segment.specs.declared.state.State.{State}
 use Rattle.segment.proofs.Invariant.{Ended, Running, Search-invariant, ends-here, begins, row-few}
@@ -47,11 +48,11 @@ draws fine odd N t d = fine-index odd N t refl d
 module _ (k : Search) (s : Segment) where
   -- the next state, where it is told whether the search is done
   chosen : (n : ℕ) {b : Bool} → state-after k s n .done ≡ b
-      → state-after k s (suc n) ≡ cond b (state-after k s n) (next k (odd-after n) (s .count) (state-after k s n))
+      → state-after k s (suc n) ≡ cond b (state-after k s n) (next k (is-odd n) (s .count) (state-after k s n))
   unfolding state-after
-  chosen n e = ap (λ (b : Bool). cond b (state-after k s n) (next k (odd-after n) (s .count) (state-after k s n))) e
+  chosen n e = ap (λ (b : Bool). cond b (state-after k s n) (next k (is-odd n) (s .count) (state-after k s n))) e
 
-  step-is : (n : ℕ) → state-after k s n .done ≡ false → state-after k s (suc n) ≡ next k (odd-after n) (s .count) (state-after k s n)
+  step-is : (n : ℕ) → state-after k s n .done ≡ false → state-after k s (suc n) ≡ next k (is-odd n) (s .count) (state-after k s n)
   step-is n = chosen n
 
   stays : (n : ℕ) → state-after k s n .done ≡ true → state-after k s (suc n) ≡ state-after k s n
@@ -64,12 +65,11 @@ module _ (k : Search) (s : Segment) where
 
 -- after n steps: the invariant, and n quotients drawn if the search is not done
 record Stepped (k : Search) (s : Segment) (n : ℕ) (t : State) : Type 0 where
-  invariant : Search-invariant k s (odd-after n) t
+  invariant : Search-invariant k s (is-odd n) t
   drawn : t .done ≡ false → t .index ≡ n
 
 module _ (k : Search) {s : Segment} (a : Accepted s) where
   stepped : (n : ℕ) → Stepped k s n (state-after k s n)
-  unfolding odd-after
   stepped zero = record { invariant = unfold state-after in begins k s a refl; drawn = unfold state-after first-state in λ _. refl }
   stepped (suc n) =
       let w = stepped n in
@@ -77,7 +77,7 @@ module _ (k : Search) {s : Segment} (a : Accepted s) where
       (λ e. let r = w .invariant .running e in
       rw (step-is k s n e) (record {
         invariant = kept k r;
-        drawn = λ d. draws k (odd-after n) (s .count) (state-after k s n) d ∙ ap suc (w .drawn e);
+        drawn = λ d. draws k (is-odd n) (s .count) (state-after k s n) d ∙ ap suc (w .drawn e);
       }))
       (λ e. rw (stays k s n e) (record {
         invariant = ends-here (w .invariant .ended e) e;
@@ -85,7 +85,7 @@ module _ (k : Search) {s : Segment} (a : Accepted s) where
       }))
       (dichotomy (state-after k s n .done))
 
-  running-after : (n : ℕ) → state-after k s n .done ≡ false → Running k s (odd-after n) (state-after k s n)
+  running-after : (n : ℕ) → state-after k s n .done ≡ false → Running k s (is-odd n) (state-after k s n)
   running-after n = stepped n .invariant .running
 
   few : (n : ℕ) → state-after k s n .done ≡ false → n < 29
@@ -140,7 +140,7 @@ module _ (k : Search) {s : Segment} (a : Accepted s) where
         later = λ n e. rw (step-is k s n e) (grows k (running-after n e));
         not-enough = λ n e. running-after n e .below;
         drawn = λ n. stepped n .drawn;
-        one-quotient = λ n q e. ap (λ (t : State). t .index) (step-is k s n e) ∙ always q (odd-after n) (s .count) (state-after k s n) ∙ ap suc (stepped n .drawn e);
+        one-quotient = λ n q e. ap (λ (t : State). t .index) (step-is k s n e) ∙ always q (is-odd n) (s .count) (state-after k s n) ∙ ap suc (stepped n .drawn e);
         reaches = λ n e. sym (stepped n .invariant .ended e .label);
         within-29 = done-within;
       }
@@ -156,12 +156,12 @@ pub record At (k : Search) (s : Segment) (odd : Bool) (t : State) : Type 0 where
   pub accepted : Accepted s
   pub steps : ℕ
   pub is : t ≡ state-after k s steps
-  pub parity : odd-after steps ≡ odd
+  pub parity : is-odd steps ≡ odd
   pub runs : t .done ≡ false
 
 module _ (k : Search) {s : Segment} (a : Accepted s) {t : State} (e : t ≡ first-state (s .unit) (s .step) (s .start) (s .count)) where
   pub first-runs : t .done ≡ false → At k s false t
-  unfolding state-after odd-after
+  unfolding state-after
   first-runs d = record { accepted = a; steps = 0; is = e; parity = refl; runs = d }
 
   pub first-done : t .done ≡ true → t ≡ state-after k s 29
@@ -180,7 +180,6 @@ module _ {k : Search} {s : Segment} {odd : Bool} {t : State} (p : At k s odd t) 
     next-is = e ∙ (rw (p .parity, sym (p .is)) at (sym (step-is k s (p .steps) not-done)))
 
     pub goes-on : t′ .done ≡ false → At k s (not odd) t′
-    unfolding odd-after
     goes-on d = record { accepted = p .accepted; steps = suc (p .steps); is = next-is; parity = ap not (p .parity); runs = d }
 
     pub is-done : t′ .done ≡ true → t′ ≡ state-after k s 29

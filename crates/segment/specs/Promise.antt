@@ -5,6 +5,7 @@ use mathlib.Core.Bool.{Bool, true, false}
 use mathlib.Core.List.{List, [], _∷_, List·Memᴰ}
 use mathlib.Core.Logic.{_↔_, _⊎_}
 use Prim.Native.Nat.{ℕ, suc, _+_, _^_, _≤_, _<_}
+use Rattle.numbers.specs.Parity.{is-odd}
 use Rattle.numbers.specs.Checklist.{Condition, condition, Refused-by}
 use Rattle.expansion.specs.Rows.{period}
 use Rattle.expansion.specs.Configurations.{Configuration, configuration}
@@ -17,7 +18,7 @@ use Rattle.geometry.specs.Promise.{Residues-correct}
 use Rattle.segment.specs.Accepted.{asked, refusal, Accepted}
 use Rattle.segment.specs.Search.{verdict, distance}
 use Rattle.segment.specs.Answer.{regular-answer, fine-answer}
-use Rattle.segment.specs.State.{regular-next, fine-next, next, odd-after, state-after}
+use Rattle.segment.specs.State.{regular-next, fine-next, next, state-after}
 use Rattle.segment.specs.declared.state.State.{State}
 use Rattle.segment.specs.declared.Verdict.{Verdict}
 use Rattle.segment.specs.declared.Verdict.the-variants.{Clear, Possible}
@@ -87,7 +88,7 @@ pub record At-configuration (k : Search) (s : Segment) (t : State) : Type 0 wher
 pub record Steps-correct (k : Search) (s : Segment) : Type 0 where
   pub at-configuration : (n : ℕ) → At-configuration k s (state-after k s n)
   pub begins-at-one : state-after k s 0 .longs + state-after k s 0 .shorts ≡ 1
-  pub step-is : (n : ℕ) → state-after k s n .done ≡ false → state-after k s (suc n) ≡ next k (odd-after n) (s .count) (state-after k s n)
+  pub step-is : (n : ℕ) → state-after k s n .done ≡ false → state-after k s (suc n) ≡ next k (is-odd n) (s .count) (state-after k s n)
   pub later : (n : ℕ) → state-after k s n .done ≡ false
       → state-after k s n .longs + state-after k s n .shorts < state-after k s (suc n) .longs + state-after k s (suc n) .shorts
   pub not-enough : (n : ℕ) → state-after k s n .done ≡ false → state-after k s n .longs + state-after k s n .shorts < s .count

@@ -1,9 +1,10 @@
 -- The steps of the searches as functions of numbers, for the contracts of the functions that take them, and where a search stands after so many steps.
 -- specs/Promise.antt says what the steps are for. Assumes nothing: these are definitions.
 use mathlib.Core.Path.{_≡_}
-use mathlib.Core.Bool.{Bool, true, false, not, _||_, cond}
+use mathlib.Core.Bool.{Bool, true, false, _||_, cond}
 use Prim.Native.Nat.{ℕ, zero, suc, _+_, _-_, _*_, _/_, _^_, _≤_, _<_, min}
 use lib.Dec.{eqb, leb, ltb}
+use Rattle.numbers.specs.Parity.{is-odd}
 use Rattle.expansion.specs.Reached.{Search}
 use Rattle.expansion.specs.Reached.Search.{regular, fine}
 use Rattle.geometry.specs.Segment.{Segment}
@@ -174,12 +175,7 @@ unfoldable pub next : Search → (odd : Bool) → (N : ℕ) → State → State
 next regular odd N s = regular-next odd N s
 next fine odd N s = fine-next odd N s
 
--- even and odd rows take turns: whether the row after so many steps is odd
-unfoldable pub odd-after : (steps : ℕ) → Bool
-odd-after zero = false
-odd-after (suc n) = not (odd-after n)
-
--- where a search stands after so many steps; once it is done, it stays there
+-- where a search stands after so many steps, even and odd rows taking turns; once it is done, it stays there
 unfoldable pub state-after : Search → Segment → (steps : ℕ) → State
 state-after k s zero = first-state (s .unit) (s .step) (s .start) (s .count)
-state-after k s (suc n) = cond (state-after k s n .done) (state-after k s n) (next k (odd-after n) (s .count) (state-after k s n))
+state-after k s (suc n) = cond (state-after k s n .done) (state-after k s n) (next k (is-odd n) (s .count) (state-after k s n))

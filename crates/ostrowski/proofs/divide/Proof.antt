@@ -1,5 +1,5 @@
 -- `ostrowski::divide` meets its contract.
--- The loop's invariant: at `row`, drawn as the remainders and denominators, the target is taken apart into the rest and the two sums. The measure is the remainder, which
+-- The loop's invariant: at `row`, drawn as the remainders and denominators, the target is divided so far, into the rest and the two sums. The measure is the remainder, which
 -- falls. Assumes nothing.
 use mathlib.Core.Path.{sym, _∙_, ap}
 use native.Mathlib.Nat.{pos-of-ne-zero, mod-lt}

@@ -1,13 +1,14 @@
--- The way back while it is made: a target is taken difference-of-sums over the remainders, row by row as they are drawn, and as many denominators are summed up. In the end
--- the difference of the two sums, modulo the period, is an argument of what has been taken off. Assumes nothing.
+-- Modular division: row by row, as rows are drawn, a remainder is taken off the target as often as it goes, and as many of the row's denominator are added to a sum. In
+-- the end the difference of the two sums, modulo the period, has what was taken off as its residue. Assumes nothing.
 use mathlib.Core.Path.{_≡_, refl, sym, _∙_, ap, subst}
 use mathlib.Core.Bool.{Bool, true, false}
 use Prim.Native.Nat.{ℕ, suc, _+_, _-_, _*_, _/_, _%_, _≤_, _<_, _∣_}
 use native.Mathlib.Nat.{mod-lt, mod-le, mod-eq-of-lt, div-add-mod', le-div-iff-mul-le, mul-le-mul-right, dvd-mod-iff, dvd-mul-left, dvd-mul-right-of-dvd}
 use native.Mathlib.Omega.{arith}
 use Rattle.numbers.specs.Divisors.{gcd}
+use Rattle.numbers.specs.Parity.{is-odd}
 use Rattle.numbers.proofs.Congruences.{Congruent, equals, chain, plus, times, cancel, none, remainder, flip, is-remainder, by-remainders}
-use Rattle.numbers.proofs.Parity.{odd, By-parity, even-congruent, odd-congruent, nothing, exchanged, added, repeated, restated, mirrored}
+use Rattle.numbers.proofs.Parity.{By-parity, even-congruent, odd-congruent, nothing, exchanged, added, repeated, restated, mirrored}
 use Rattle.numbers.proofs.Remainders.{same-if-divides}
 use Rattle.expansion.specs.Rows.{last, denominator-at, period}
 use Rattle.expansion.proofs.Promises as expansion
@@ -15,12 +16,12 @@ use Rattle.expansion.proofs.Laws.{row-by-parity, At-row, first-drawn, is-last, 
 
 -- at row i, drawn as b and u, p and q: the rest of the target is less than the remainder before; the sums over the rows of this parity and of the other are together less
 -- than this row's denominator and the one before; and what is taken off is a times their difference
-pub record Taken-apart (M a t i b u p q rest same other : ℕ) : Type 0 where
+pub record Partial-division (M a t i b u p q rest same other : ℕ) : Type 0 where
   pub drawn : At-row M a i b u p q
   pub rest-below : rest < b
   pub rest-within : rest ≤ t
   pub sums-below : same + other < q + p
-  pub agreed : By-parity M (odd i) (t - rest) (a * same) (a * other)
+  pub agreed : By-parity M (is-odd i) (t - rest) (a * same) (a * other)
 
 -- the difference of two sums, modulo a period
 abbrev pub difference-of-sums : (period from taken : ℕ) → ℕ
@@ -60,7 +61,7 @@ module _ {M a : ℕ} (small : a < M) where
       )
 
   -- before the first row
-  pub start : (t : ℕ) → t < M → Taken-apart M a t 0 M a 0 1 t 0 0
+  pub start : (t : ℕ) → t < M → Partial-division M a t 0 M a 0 1 t 0 0
   start t l =
       record {
         drawn = first-drawn small;
@@ -70,18 +71,18 @@ module _ {M a : ℕ} (small : a < M) where
         agreed = restated (t - t) (a * 0) (a * 0) (nothing false) (omega arith) (omega arith);
       }
 
-  module _ {t i b u p q rest same other : ℕ} (w : Taken-apart M a t i b u p q rest same other) where
+  module _ {t i b u p q rest same other : ℕ} (w : Partial-division M a t i b u p q rest same other) where
     -- the sums with what row i adds are less than the next two denominators
     pub next-below : 0 < u → same + other + rest / u * q < p + b / u * q + q
     next-below h =
         let k : rest / u ≤ b / u = le-div-iff-mul-le h .1 (omega (arith, w .rest-below, div-add-mod' rest u)) in
         omega (arith, w .sums-below, mul-le-mul-right q k)
 
-    pub next : 0 < u → Taken-apart M a t (suc i) u (b % u) q (p + b / u * q) (rest % u) other (same + rest / u * q)
+    pub next : 0 < u → Partial-division M a t (suc i) u (b % u) q (p + b / u * q) (rest % u) other (same + rest / u * q)
     next h =
         let r = w .drawn in
         let k = rest / u in
-        let s : By-parity M (odd i) (a * q) u 0 =
+        let s : By-parity M (is-odd i) (a * q) u 0 =
         rw (r .denominator-is, r .remainder-is) (row-by-parity M a small i (r .there)) in
         record {
           drawn = next-drawn small r h;
@@ -115,10 +116,10 @@ module _ {M a : ℕ} (small : a < M) where
           )
 
       -- by the parity of the last row
-      pub even-solves : t < M → odd i ≡ false → a * difference-of-sums P same other % M ≡ t - rest
+      pub even-solves : t < M → is-odd i ≡ false → a * difference-of-sums P same other % M ≡ t - rest
       even-solves l e = solves (t - rest) same other (omega arith) (omega (arith, end-below)) (even-congruent (w .agreed) e)
 
-      pub odd-solves : t < M → odd i ≡ true → a * difference-of-sums P other same % M ≡ t - rest
+      pub odd-solves : t < M → is-odd i ≡ true → a * difference-of-sums P other same % M ≡ t - rest
       odd-solves l e = solves (t - rest) other same (omega arith) (omega (arith, end-below)) (odd-congruent (w .agreed) e)
 
       -- the argument that is found
@@ -128,9 +129,9 @@ module _ {M a : ℕ} (small : a < M) where
         pub solves-it : a * argument % M ≡ t - rest
 
       pub solution : t < M → Solution
-      solution l = by (odd i) refl
+      solution l = by (is-odd i) refl
         where
-          by : (o : Bool) → odd i ≡ o → Solution
+          by : (o : Bool) → is-odd i ≡ o → Solution
           by false e = record { argument = difference-of-sums P same other; within = mod-lt (same + (2 * P - other)) period-positive; solves-it = even-solves l e }
           by true e = record { argument = difference-of-sums P other same; within = mod-lt (other + (2 * P - same)) period-positive; solves-it = odd-solves l e }
 
