@@ -1,4 +1,4 @@
-//! What the programs use: segments, random lines, the same in every run, and the median of times.
+//! What the programs use: segments, random lines, the same in every run, the median of times, and lines of measurements.
 
 #![allow(dead_code)]
 
@@ -36,4 +36,17 @@ pub fn median(times: impl Iterator<Item = f64>) -> f64 {
     let mut times: Vec<f64> = times.collect();
     times.sort_by(f64::total_cmp);
     times[times.len() / 2]
+}
+
+/// Times the proved call and the others in each repetition, so that what disturbs the machine meets all of them; prints medians, of
+/// the times and of the ratios within a repetition. A time is divided by the number of arguments given.
+pub fn measure<const N: usize>(names: [&str; N], arguments: u64, mut times: impl FnMut() -> (f64, [f64; N])) {
+    let times: Vec<(f64, [f64; N])> = (0..REPETITIONS).map(|_| times()).collect();
+    let digits = if arguments == 1 { 1 } else { 3 };
+    for (other, name) in names.iter().enumerate() {
+        let proved_time = median(times.iter().map(|t| t.0)) / arguments as f64;
+        let other_time = median(times.iter().map(|t| t.1[other])) / arguments as f64;
+        let ratio = median(times.iter().map(|t| t.0 / t.1[other]));
+        println!("{name}\t{proved_time:.digits$}\t{other_time:.digits$}\t{ratio:.3}");
+    }
 }

@@ -12,7 +12,7 @@ mod same;
 mod tuned;
 
 use c_api::{Marks, Searched};
-use common::{median, Segment, REPETITIONS};
+use common::{measure, Segment};
 use std::hint::black_box;
 use std::time::Instant;
 
@@ -211,19 +211,6 @@ fn nanoseconds<I, A>(inputs: &[I], memory: &mut Memory, call: impl Fn(&I, &mut M
         black_box(&*memory);
     }
     start.elapsed().as_secs_f64() * 1e9 / inputs.len() as f64
-}
-
-/// Times the proved call and the others in each repetition, so that what disturbs the machine meets all of them; prints medians, of
-/// the times and of the ratios within a repetition. A time is divided by the number of arguments given.
-fn measure<const N: usize>(names: [&str; N], arguments: u64, mut times: impl FnMut() -> (f64, [f64; N])) {
-    let times: Vec<(f64, [f64; N])> = (0..REPETITIONS).map(|_| times()).collect();
-    let digits = if arguments == 1 { 1 } else { 3 };
-    for (other, name) in names.iter().enumerate() {
-        let proved_time = median(times.iter().map(|t| t.0)) / arguments as f64;
-        let other_time = median(times.iter().map(|t| t.1[other])) / arguments as f64;
-        let ratio = median(times.iter().map(|t| t.0 / t.1[other]));
-        println!("{name}\t{proved_time:.digits$}\t{other_time:.digits$}\t{ratio:.3}");
-    }
 }
 
 /// What a search answers to a domain.

@@ -21,7 +21,7 @@ use Rattle.domain.specs.declared.DomainAnswer.the-variants.{Refused, Searched}
 use Rattle.domain.proofs.Promises.{promised}
 use Rattle.text.proofs.Promises as text
 use Rattle.job.specs.Reading.{reading, reading-refusal}
-use Rattle.job.specs.Output.{places, longest, answer-of, verdict-name, Small-marks, argument-lines, refused, report, printed-for, printed, output-with, output-of}
+use Rattle.job.specs.Output.{places, longest, answer-of, verdict-name, Small-marks, argument-lines, refused, report, printed-for, printed, job-answer, job-marks, job-list, output-with, output-of}
 use Rattle.job.specs.declared.Reading.{Reading}
 use Rattle.job.specs.declared.Reading.the-variants.{Read, Malformed}
 
@@ -76,17 +76,17 @@ module _ (d : Domain) where
     few : length (hard-arguments d) ≤ places
     few = omega (arith, correct .searched first listed .0 e .1, length-replicate {A = ℕ} places 0)
 
-    pub listed-is : listed ≡ length (hard-arguments d)
+    listed-is : listed ≡ length (hard-arguments d)
     listed-is = correct .searched first listed .0 e .3
 
     -- the marks, and the hard arguments at the front of the list
-    pub marks-are : marks-after d places (replicate 8 0) ≡ marks-of d
+    marks-are : marks-after d places (replicate 8 0) ≡ marks-of d
     marks-are = correct .written first listed e .0
 
-    pub list-long : listed ≤ length (list-of d)
+    list-long : listed ≤ length (list-of d)
     list-long = let b = correct .buffer first listed e in omega (arith, b .room, b .places, listed-is)
 
-    pub hard-in-front : take listed (list-of d) ≡ hard-arguments d
+    hard-in-front : take listed (list-of d) ≡ hard-arguments d
     hard-in-front = ap₂ take listed-is (correct .written first listed e .1) ∙ front-taken (hard-arguments d) (replicate places 0)
 
     pub hard-listed : Enumerates (Hard-in-numbers d) listed (hard-arguments d)
@@ -95,7 +95,7 @@ module _ (d : Domain) where
     pub marks-correct : Marks-correct d first (marks-of d)
     marks-correct = subst (Marks-correct d first) marks-are (correct .marked first listed e)
 
-    pub marks-small : Small-marks (marks-of d)
+    marks-small : Small-marks (marks-of d)
     marks-small i = omega (arith, marks-correct .at-most-3 i)
 
     report-fits : length (report first (marks-of d) (hard-arguments d)) ≤ longest
@@ -113,6 +113,27 @@ pub printed-report : (d : Domain) {first : Verdict} {listed : ℕ} → answer-of
     → printed d ≡ report first (marks-of d) (hard-arguments d)
 unfolding printed printed-for
 printed-report d e = rw e
+
+-- a refusal is printed
+pub output-refused : (job : Reading) {n : ℕ} → job-answer job places ≡ Refused n → output-with job ≡ refused n
+unfolding job-answer output-with
+output-refused (Read d) e = printed-refused d e
+output-refused Malformed {n} e = let same : reading-refusal Malformed ≡ n = cc in ap refused same
+
+-- or what is in the marks and at the front of the list
+pub record Reported (job : Reading) (first : Verdict) (listed : ℕ) (marks list : List ℕ) : Type 0 where
+  pub eight : length marks ≡ 8
+  pub small : Small-marks marks
+  pub within : listed ≤ length list
+  pub output : output-with job ≡ report first marks (take listed list)
+
+pub output-reported : (job : Reading) {first : Verdict} {listed : ℕ} → job-answer job places ≡ Searched first listed
+    → Reported job first listed (job-marks job places (replicate 8 0)) (job-list job (replicate places 0))
+unfolding job-answer job-marks job-list output-with
+output-reported (Read d) e =
+    rw (marks-are d e)
+    (record { eight = marks-correct d e .eight; small = marks-small d e; within = list-long d e; output = printed-report d e ∙ rw (hard-in-front d e) })
+output-reported Malformed e = let z : _≡_ {A = ℕ} 0 1 = cc in absurd (omega arith)
 
 -- by the two cases of an answer
 pub by-answer : {P : Type 0} (a : DomainAnswer) → ((n : ℕ) → a ≡ Refused n → P) → ((v : Verdict) (n : ℕ) → a ≡ Searched v n → P) → P

@@ -5,7 +5,7 @@ use lib.ListN.{length, getD}
 use Rattle.segment.specs.declared.Verdict.{Verdict}
 use Rattle.segment.specs.declared.Verdict.the-variants.{Clear, Possible}
 use Rattle.domain.specs.Domain.{hard-arguments}
-use Rattle.domain.specs.Answer.{domain-answer, marks-of}
+use Rattle.domain.specs.Answer.{domain-answer, marks-of, marks-after, list-after}
 use Rattle.domain.specs.declared.Domain.{Domain}
 use Rattle.domain.specs.declared.DomainAnswer.{DomainAnswer}
 use Rattle.domain.specs.declared.DomainAnswer.the-variants.{Refused, Searched}
@@ -62,6 +62,19 @@ printed-for (Searched first listed) d = report first (marks-of d) (hard-argument
 
 unfoldable pub printed : Domain → List ℕ
 printed d = printed-for (answer-of d) d
+
+-- the answer to print for a job, with so many places, and for a text that is none; and what is left in the marks and in the list then
+unfoldable pub job-answer : Reading → (places : ℕ) → DomainAnswer
+job-answer (Read d) n = domain-answer d n
+job-answer Malformed n = Refused (reading-refusal Malformed)
+
+unfoldable pub job-marks : Reading → (places : ℕ) → (old : List ℕ) → List ℕ
+job-marks (Read d) n old = marks-after d n old
+job-marks Malformed n old = old
+
+unfoldable pub job-list : Reading → (old : List ℕ) → List ℕ
+job-list (Read d) old = list-after d old
+job-list Malformed old = old
 
 -- what is printed of a job, or of a text that is none
 unfoldable pub output-with : Reading → List ℕ

@@ -7,11 +7,12 @@ ghost use lib.ListN.{length};
 ghost use lib.Seq.{sets};
 ghost use Rattle.numbers.specs.Lists.{overwrite-front, place-after};
 ghost use Rattle.job.specs.Reading.{rest-from, reading};
-ghost use Rattle.job.specs.Output.{printed, output-of};
+ghost use Rattle.job.specs.Output.{job-answer, job-marks, job-list, output-with, output-of};
 
 mod report;
 
 use domain::Domain;
+use report::put_refusal;
 use report::put_report;
 
 // The longest answer: 4,096 arguments of seven digits.
@@ -73,23 +74,32 @@ pub fn run_job(text: &[u8], out: &mut [u8; LONGEST]) -> usize
     ensures { λ r. ⌜ r ≡ length (output-of (now (text .entry))) ⌝ }
     ensures { λ r. ⌜ now (out .exit) ≡ overwrite-front (output-of (now (text .entry))) (now (out .entry)) ⌝ }
 {
-    match read_job(text) {
-        Reading::Read(domain) => print_answer(domain, out),
-        Reading::Malformed => text::put_line(b"refused=", 8, out, 0),
-    }
+    print_answer(read_job(text), out)
 }
 
 // Searches a job's domain and prints the answer.
-fn print_answer(domain: Domain, out: &mut [u8]) -> usize
-    ensures { λ r. ⌜ r ≡ place-after 0 (printed domain) (now (out .entry)) ⌝ }
-    ensures { λ r. ⌜ now (out .exit) ≡ sets (now (out .entry)) 0 (printed domain) ⌝ }
+fn print_answer(job: Reading, out: &mut [u8]) -> usize
+    ensures { λ r. ⌜ r ≡ place-after 0 (output-with job) (now (out .entry)) ⌝ }
+    ensures { λ r. ⌜ now (out .exit) ≡ sets (now (out .entry)) 0 (output-with job) ⌝ }
 {
     let mut marks = [0u8; 8];
     let mut list = [0u32; 4096];
-    match domain::search_domain(domain, &mut marks, &mut list) {
-        domain::DomainAnswer::Refused(number) => text::put_line(b"refused=", number as u64, out, 0),
+    match search(job, &mut marks, &mut list) {
+        domain::DomainAnswer::Refused(number) => put_refusal(number as u64, out),
         domain::DomainAnswer::Searched { first, listed } => {
             put_report(first, &marks, &list[..listed as usize], out)
         }
+    }
+}
+
+// Searches a job's domain. A text that is no job is refused by 8, and marks and list are left as they were.
+fn search(job: Reading, marks: &mut [u8; 8], list: &mut [u32]) -> domain::DomainAnswer
+    ensures { λ r. ⌜ r ≡ job-answer job (length (now (list .entry))) ⌝ }
+    ensures { λ r. ⌜ now (marks .exit) ≡ job-marks job (length (now (list .entry))) (now (marks .entry)) ⌝ }
+    ensures { λ r. ⌜ now (list .exit) ≡ job-list job (now (list .entry)) ⌝ }
+{
+    match job {
+        Reading::Read(domain) => domain::search_domain(domain, marks, list),
+        Reading::Malformed => domain::DomainAnswer::Refused(8),
     }
 }

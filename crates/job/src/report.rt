@@ -1,15 +1,24 @@
-// What is printed of a job that is not refused: phase 1's verdict, the marks, and the hard arguments. Each function writes from a place on, as far
-// as there are places, and tells the place after what it wrote.
+// What is printed of a job: the line of a refusal; or phase 1's verdict, the marks, and the hard arguments. Each function writes from a place on,
+// as far as there are places, and tells the place after what it wrote. Each name that is printed stands here, and once.
 ghost use mathlib.Core.Path.{_≡_};
 ghost use mathlib.Core.List.{[]};
 ghost use lib.Seq.{sets};
 ghost use Rattle.numbers.specs.Lists.{place-after};
 ghost use Rattle.text.specs.Text.{bytes, line};
-ghost use Rattle.job.specs.Output.{verdict-name, Small-marks, mark-digits, argument-lines, report};
+ghost use Rattle.job.specs.Output.{verdict-name, Small-marks, mark-digits, argument-lines, refused, report};
 use text::put;
 use text::put_byte;
 use text::put_line;
 
+// A refusal is its number alone.
+pub(crate) fn put_refusal(number: u64, out: &mut [u8]) -> usize
+    ensures { λ r. ⌜ r ≡ place-after 0 (refused number) (now (out .entry)) ⌝ }
+    ensures { λ r. ⌜ now (out .exit) ≡ sets (now (out .entry)) 0 (refused number) ⌝ }
+{
+    put_line(b"refused=", number, out, 0)
+}
+
+// What is printed of a job that is not refused.
 pub(crate) fn put_report(
     first: segment::Verdict,
     marks: &[u8],
@@ -31,9 +40,19 @@ fn put_first(first: segment::Verdict, out: &mut [u8], at: usize) -> usize
     ensures { λ r. ⌜ r ≡ place-after at (line (bytes "first=") (verdict-name first) []) (now (out .entry)) ⌝ }
     ensures { λ r. ⌜ now (out .exit) ≡ sets (now (out .entry)) at (line (bytes "first=") (verdict-name first) []) ⌝ }
 {
-    match first {
-        segment::Verdict::Clear => put(b"first=cleared\n", out, at),
-        segment::Verdict::Possible => put(b"first=possible\n", out, at),
+    let after_name = put(b"first=", out, at);
+    let after_verdict = put_verdict(first, out, after_name);
+    put_byte(10, out, after_verdict)
+}
+
+// What a verdict is called.
+fn put_verdict(verdict: segment::Verdict, out: &mut [u8], at: usize) -> usize
+    ensures { λ r. ⌜ r ≡ place-after at (verdict-name verdict) (now (out .entry)) ⌝ }
+    ensures { λ r. ⌜ now (out .exit) ≡ sets (now (out .entry)) at (verdict-name verdict) ⌝ }
+{
+    match verdict {
+        segment::Verdict::Clear => put(b"cleared", out, at),
+        segment::Verdict::Possible => put(b"possible", out, at),
     }
 }
 

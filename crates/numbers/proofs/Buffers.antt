@@ -12,7 +12,7 @@ use lib.ListN.{length, getD, set, take, drop, replicate, length-append, length-d
 use lib.Seq.{set-out, sets, sets-eq, length-sets, getD-append-add, getD-drop, getD-set-same, getD-set-other, ext-getD, take-append-seam}
 use Rattle.numbers.specs.Lists.{zero-padded, overwrite-front, place-after}
 use Rattle.numbers.specs.Promise.{Buffer-correct}
-use Rattle.numbers.proofs.Lists.{Ascending, drop-replicate}
+use Rattle.numbers.proofs.Lists.{Ascending, no-entries, drop-replicate}
 
 -- the list `goal` goes into the buffer `old` from the place `from` on; of it `rest` is still to be written into the buffer `now`, from the place
 -- `at` on
@@ -129,9 +129,21 @@ clip-list xs rest {now = now} {at = at} w e =
       place = place-after-both xs rest now at ∙ w .place;
     })
 
+-- an entry is written at a place that there is
+pub clip-one : {goal old : List ℕ} {from x : ℕ} {rest now : List ℕ} {at : ℕ} → Clipped goal old from (x ∷ rest) now at → at < length now
+    → Clipped goal old from rest (set now at x) (at + 1)
+clip-one {x = x} {rest = rest} w h = clip-list (x ∷ []) rest w (omega arith, refl)
+
 -- nothing is left
 pub clip-done : {goal old : List ℕ} {from : ℕ} {now : List ℕ} {at : ℕ} → Clipped goal old from [] now at → (at ≡ place-after from goal old) × (now ≡ sets old from goal)
 clip-done w = (omega (arith, w .place), w .to-come)
+
+-- nothing is left that has a place
+pub clip-full : {goal old : List ℕ} {from : ℕ} {rest now : List ℕ} {at : ℕ} → Clipped goal old from rest now at → min (length rest) (length now - at) ≡ 0
+    → (at ≡ place-after from goal old) × (now ≡ sets old from goal)
+clip-full {rest = rest} {now = now} {at = at} w h =
+    by-cases (decLe (length now) at) (λ l. (omega (arith, w .place), sym (sets-out rest now at l) ∙ w .to-come))
+    (λ l. clip-done (clip-restate (no-entries rest (omega arith)) w))
 
 pub clip-length : {goal old : List ℕ} {from : ℕ} {rest now : List ℕ} {at : ℕ} → Clipped goal old from rest now at → length now ≡ length old
 clip-length {goal} {old} {from} {rest} {now} {at} w =

@@ -1,14 +1,14 @@
--- The decimal digits of a number: the last one and the digits of the tenth of it; that they are its quotients by powers of ten; how many there
--- are. Assumes nothing.
+-- The decimal digits of a number: the last one and the digits of the tenth of it; how they are written from the last one down; how many there are.
+-- Assumes nothing.
 use mathlib.Core.Path.{_≡_, sym, ap, _∙_}
 use mathlib.Core.List.{List, [], _∷_, _++_, append-assoc, append-nil}
-use mathlib.Core.Logic.{_⊎_, inr, ⊎-elim, by-cases}
+use mathlib.Core.Logic.{by-cases}
 use Prim.Native.Nat.{ℕ, zero, suc, _+_, _-_, _*_, _/_, _%_, _^_, _≤_, _<_}
 use native.Mathlib.Decide.{decLt}
-use native.Mathlib.Nat.{not-suc-le-zero, zero-lt-suc, pow-suc, div-one, mod-eq-of-lt, div-div-eq-div-mul, div-lt-iff-lt-mul, le-div-iff-mul-le, pow-le-pow-right}
-use native.Mathlib.Numerals.{sub-one}
+use native.Mathlib.Nat.{not-suc-le-zero, zero-lt-suc, pos-of-ne-zero, pow-suc, div-lt-iff-lt-mul}
 use native.Mathlib.Omega.{arith}
-use lib.ListN.{length, length-append}
+use lib.ListN.{length, set, take, drop, length-append, length-set, length-drop}
+use lib.Seq.{take-all, drop-length, drop-cons, drop-set-lt, getD-set-same}
 use borrow.Author.Tests.{lt-ltb, le-ltb}
 use Rattle.text.specs.Text.{digit, decimal-within, decimal}
 
@@ -46,6 +46,10 @@ by-tenths P small more n = go (suc n) n (omega arith)
     go zero k h = absurd (not-suc-le-zero h)
     go (suc f) k h = by-cases (decLt k 10) (small k) (λ l. more k (omega arith) (go f (k / 10) (omega arith)))
 
+-- the tenth of a number has a digit less
+tenth-below : (k n : ℕ) → n < 10 ^ suc k → n / 10 < 10 ^ k
+tenth-below k n h = div-lt-iff-lt-mul (zero-lt-suc 9) .1 (omega (arith, pow-suc 10 k))
+
 -- the byte of a digit x, alone and after the digits of a number that is not 0
 module _ (x : ℕ) (low : 48 ≤ x) (high : x ≤ 57) where
   pub byte-alone : decimal (x - 48) ≡ x ∷ []
@@ -59,38 +63,49 @@ module _ (x : ℕ) (low : 48 ≤ x) (high : x ≤ 57) where
       let r : digit ((n * 10 + (x - 48)) % 10) ≡ x = omega arith in
       more-digits (n * 10 + (x - 48)) (omega arith) ∙ rw (q, r)
 
--- ---- by powers of ten
+-- ---- from the last place down
 
--- the last k digits of a number, with zeros in front where it has fewer
-unfoldable pub last-digits : (k n : ℕ) → List ℕ
-last-digits zero n = []
-last-digits (suc k) n = digit (n / 10 ^ k % 10) ∷ last-digits k n
+-- of so many places those after `first` have the last digits of n; those of `left` come before them, and have room up to `first`
+pub record Digits-after (size n : ℕ) (places : List ℕ) (first left : ℕ) : Type 0 where
+  pub digits : decimal left ++ drop (suc first) places ≡ decimal n
+  pub room : left < 10 ^ suc first
+  pub within : first < size
+  pub size-kept : length places ≡ size
 
-pub next-digit : (k n : ℕ) → 0 < k → last-digits k n ≡ digit (n / 10 ^ (k - 1) % 10) ∷ last-digits (k - 1) n
-unfolding last-digits
-next-digit zero n h = absurd (not-suc-le-zero h)
-next-digit (suc k) n h = rw (sub-one (suc k))
+-- a list from a place on that was written
+from-written : (places : List ℕ) (i x : ℕ) → i < length places → drop i (set places i x) ≡ x ∷ drop (suc i) places
+from-written places i x h =
+    drop-cons (set places i x) i 0 (omega (arith, length-set places i x)) ∙ rw (getD-set-same places i x 0 h, drop-set-lt (suc i) places i x (omega arith))
 
-pub some-power : (k : ℕ) → 0 < 10 ^ k
-some-power k = omega (arith, pow-le-pow-right {n = 10} (zero-lt-suc 9) {i = 0} {j = k} (omega arith))
+-- nothing is written yet
+pub none-written : {last n : ℕ} {places : List ℕ} → length places ≡ suc last → n < 10 ^ suc last → Digits-after (suc last) n places last n
+none-written {n = n} {places = places} e h =
+    record { digits = rw (← e, drop-length places) (append-nil (decimal n)); room = h; within = omega arith; size-kept = e }
 
--- the digits of a quotient by a power of ten, and then those that it leaves away
-front-and-rest : (k n : ℕ) → (k ≡ 0) ⊎ (10 ^ k ≤ n) → decimal (n / 10 ^ k) ++ last-digits k n ≡ decimal n
-unfolding last-digits
-front-and-rest zero n h = append-nil (decimal (n / 1)) ∙ ap decimal (div-one n)
-front-and-rest (suc k) n h =
-    let a = n / 10 ^ k in
-    let e : n / 10 ^ suc k ≡ a / 10 = ap (λ (m : ℕ). n / m) (pow-suc 10 k) ∙ sym (div-div-eq-div-mul n (10 ^ k) 10) in
-    let whole : 10 * 10 ^ k ≤ n = ⊎-elim (λ z. absurd (omega (arith, z))) (λ l. omega (arith, l, pow-suc 10 k)) h in
-    let large : 10 ≤ a = le-div-iff-mul-le (some-power k) .1 whole in
-    rw (e, ← append-assoc (decimal (a / 10)) (digit (a % 10) ∷ []) (last-digits k n), ← more-digits a large) (front-and-rest k n (inr (omega (arith, whole))))
+module _ {size n : ℕ} {places : List ℕ} {first left : ℕ} (w : Digits-after size n places first left) where
+  -- where two digits or more are left, there is a place before
+  pub place-before : 10 ≤ left → 0 < first
+  place-before h = pos-of-ne-zero (λ z. omega (arith, rw z at (w .room)))
 
-pub digits-by-powers : (k n : ℕ) → n < 10 ^ suc k → (k ≡ 0) ⊎ (10 ^ k ≤ n) → last-digits (suc k) n ≡ decimal n
-unfolding last-digits
-digits-by-powers k n h p =
-    let a = n / 10 ^ k in
-    let small : a < 10 = div-lt-iff-lt-mul (some-power k) .1 (omega (arith, h, pow-suc 10 k)) in
-    rw (mod-eq-of-lt small) (ap (λ (l : List ℕ). l ++ last-digits k n) (sym (one-digit a small)) ∙ front-and-rest k n p)
+  -- the last one that is left is written
+  pub digit-written : 10 ≤ left → Digits-after size n (set places first (digit (left % 10))) (first - 1) (left / 10)
+  digit-written h =
+      let e : suc (first - 1) ≡ first = omega (arith, place-before h) in
+      let d = digit (left % 10) in
+      record {
+        digits =
+            rw (e, from-written places first d (omega arith), ← append-assoc (decimal (left / 10)) (d ∷ []) (drop (suc first) places), ← more-digits left h) (w .digits);
+        room = rw e (tenth-below first left (w .room));
+        within = omega arith;
+        size-kept = length-set places first d ∙ w .size-kept;
+      }
+
+  -- the only one that is left is written, and the places from it on have all digits
+  pub first-written : left < 10 → take (size - first) (drop first (set places first (digit left))) ≡ decimal n
+  first-written h =
+      let now = set places first (digit left) in
+      take-all (size - first) (drop first now) (omega (arith, length-drop first now, length-set places first (digit left)))
+      ∙ rw (from-written places first (digit left) (omega arith), ← w .digits, one-digit left h)
 
 -- ---- how many
 
@@ -99,5 +114,4 @@ pub few-digits : (k n : ℕ) → n < 10 ^ suc k → length (decimal n) ≤ suc k
 few-digits zero n h = rw (one-digit n h) (omega arith)
 few-digits (suc k) n h =
     by-cases (decLt n 10) (λ l. rw (one-digit n l) (omega arith))
-    (λ l. let t : n / 10 < 10 ^ suc k = div-lt-iff-lt-mul (zero-lt-suc 9) .1 (omega (arith, h, pow-suc 10 (suc k))) in
-    rw (more-digits n (omega arith), length-append) (omega (arith, few-digits k (n / 10) t)))
+    (λ l. rw (more-digits n (omega arith), length-append) (omega (arith, few-digits k (n / 10) (tenth-below (suc k) n h))))

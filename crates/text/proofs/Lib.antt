@@ -1,4 +1,5 @@
 mod Decimals
+mod Writing
 mod Names
 mod Steps
 mod Signs

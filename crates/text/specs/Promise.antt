@@ -36,7 +36,7 @@ pub record Decimal-correct (n : ℕ) : Type 0 where
   pub unique : (xs : List ℕ) → Digits xs → No-zero-in-front xs → decimal-value 0 xs ≡ n → xs ≡ decimal n
   -- a number below 10^(k+1) has at most k + 1 digits
   pub few : (k : ℕ) → n < 10 ^ suc k → length (decimal n) ≤ suc k
-  -- so that twenty powers of ten are enough
+  -- so that twenty places are enough
   pub at-most-20 : n < 2 ^ 64 → length (decimal n) ≤ 20
   -- the reader takes them back to n, with the line feed after them
   pub read-back : (at : ℕ) (rest : List ℕ) → n < 2 ^ 64

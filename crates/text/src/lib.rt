@@ -8,13 +8,12 @@ ghost use Rattle.text.specs.Text.{decimal, line};
 ghost use Rattle.text.specs.Reading.{field-at, signed-field-at};
 
 mod reading;
-mod writing;
 
+use numbers::min;
+use numbers::saturating_sub;
 use reading::number;
 use reading::signed;
 use reading::starts_with;
-use writing::digits_after_first;
-use writing::power;
 
 // A number and the place after its line feed.
 pub enum Found {
@@ -53,13 +52,14 @@ pub fn put(bytes: &[u8], out: &mut [u8], at: usize) -> usize
     ensures { λ r. ⌜ r ≡ place-after at (now (bytes .entry)) (now (out .entry)) ⌝ }
     ensures { λ r. ⌜ now (out .exit) ≡ sets (now (out .entry)) at (now (bytes .entry)) ⌝ }
 {
+    let room = saturating_sub(out.len() as u64, at as u64);
+    let n = min(bytes.len() as u64, room) as usize;
     let mut i = 0;
-    let mut end = at;
-    while i < bytes.len() {
-        end = put_byte(bytes[i], out, end);
+    while i < n {
+        out[at + i] = bytes[i];
         i = i + 1;
     }
-    end
+    at + n
 }
 
 // The same for one byte.
@@ -74,18 +74,22 @@ pub fn put_byte(x: u8, out: &mut [u8], at: usize) -> usize
     at + 1
 }
 
-// The same for a number in decimal.
+// The same for a number in decimal. Its digits come by division by ten, the last one first, and so fill places from the last one down; twenty
+// are enough for every number below 2^64.
 pub fn put_number(n: u64, out: &mut [u8], at: usize) -> usize
     ensures { λ r. ⌜ r ≡ place-after at (decimal n) (now (out .entry)) ⌝ }
     ensures { λ r. ⌜ now (out .exit) ≡ sets (now (out .entry)) at (decimal n) ⌝ }
 {
-    let mut left = digits_after_first(n) + 1;
-    let mut end = at;
-    while 0 < left {
-        left = left - 1;
-        end = put_byte((48 + n / power(left) % 10) as u8, out, end);
+    let mut digits = [0u8; 20];
+    let mut first = 19;
+    let mut left = n;
+    while 10 <= left {
+        digits[first] = (48 + left % 10) as u8;
+        left = left / 10;
+        first = first - 1;
     }
-    end
+    digits[first] = (48 + left) as u8;
+    put(&digits[first..], out, at)
 }
 
 // The same for a name, a number and a line feed.

@@ -1,38 +1,38 @@
 -- `text::put` meets its contract.
--- The loop's invariant: the bytes from i on are still to be written, from the place `end` on. The measure is their number. Assumes nothing.
-use mathlib.Core.List.{[], _∷_}
-use Prim.Native.Nat.{_-_}
-use native.Mathlib.Numerals.{add-one}
-use native.Mathlib.Omega.{arith}
+-- The loop's invariant: of the bytes that have a place, n, the first i are written. The measure is how many are left. Assumes nothing.
+use mathlib.Core.Path.{_≡_}
+use Prim.Native.Nat.{_-_, min}
+use borrow.Author.Count.{falls}
 use borrow.Author.Needs.{needs}
-use lib.ListN.{length, getD, drop, drop-of-length-le}
-use lib.Seq.{drop-cons}
-use Rattle.numbers.proofs.Buffers.{Clipped, clip-restate, clip-begin, clip-list, clip-done, clip-length}
+use lib.ListN.{length}
+use Rattle.numbers.proofs.Buffers.{clip-length}
+use Rattle.text.proofs.Writing.{Front-written, front-begin, byte-and-place, front-more, front-done}
 use Rattle.text.proofs.put.Statement.{statement}
 use Rattle.text.proofs.put.Tie as tie
 
 abbrev Inv-loop : tie.InvT-loop
-Inv-loop bytes out₀ at _ _ out i end = Clipped bytes out₀ at (drop i bytes) out end
+Inv-loop bytes out₀ at _ n _ out i = Front-written bytes out₀ at n out i
 
 abbrev μ-loop : tie.MeasureT-loop
-μ-loop bytes _ _ _ _ _ i _ = length bytes - i
+μ-loop _ _ _ _ n _ _ i = n - i
+
+-- n is as many bytes as have a place
+counted : (c : tie.After-min Inv-loop μ-loop)
+    → let a = c .before .before .before .before .args in c .min .result ≡ min (length (a .bytes .now)) (length (a .out .now) - a .at)
+counted c = rw (← c .before .saturating-sub .ensures) (c .min .ensures)
+
+has-place : tie.Need-slice-write-out Inv-loop μ-loop
+has-place c = let at-loop = c .before .before in byte-and-place (at-loop .loop .inv) (counted (at-loop .before)) (c .before .loop-test .taken) .1
 
 loop-again : tie.Need-loop-again Inv-loop μ-loop
-loop-again c =
-    let at-put = c .before .before in
-    let at-turn = at-put .before .before .before in
-    let l = at-turn .before .loop in
-    let bytes = at-turn .before .before .before .before .args .bytes .now in
-    let left = clip-restate (drop-cons bytes (l .i) 0 (at-turn .loop-test .taken)) (l .inv) in
-    rw (add-one (l .i)) (clip-list (getD bytes (l .i) 0 ∷ []) _ left (at-put .put-byte .ensures))
+loop-again c = let at-loop = c .before .before in front-more (at-loop .loop .inv) (counted (at-loop .before)) (c .before .loop-test .taken)
 
 written : tie.Need-returns Inv-loop μ-loop
-written c =
-    let l = c .before .loop in
-    clip-done (clip-restate (drop-of-length-le (c .before .before .before .before .args .bytes .now) (c .loop-test .left)) (l .inv))
+written c = front-done (c .before .loop .inv) (counted (c .before .before)) (c .loop-test .left)
 
 pub put-spec : {M : Type 1} → statement M
 put-spec =
     tie.close
-    (tie.spec Inv-loop μ-loop (λ c. clip-begin _ _ _) (λ c. search needs) (λ c κs. tt) (λ c. search needs)
-    (λ c. omega (arith, c .before .before .before .before .before .loop-test .taken)) loop-again (λ c. clip-length (c .before .loop .inv)) written)
+    (tie.spec Inv-loop μ-loop (λ c κs. tt) (λ c κs. tt) (λ c. front-begin _ _ _ _) (λ c. search needs) (λ c. search needs) has-place
+    (λ c. search needs) (λ c. falls _ _ (c .before .loop-test .taken)) loop-again (λ c. search needs) (λ c. clip-length (c .before .loop .inv .left))
+    written)
