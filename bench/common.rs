@@ -1,4 +1,4 @@
-//! What the programs use: segments, random lines, the same in every run, the median of times, and lines of measurements.
+//! What the programs use: segments, random lines, the same in every run, the median of times, and how measurements are printed.
 
 #![allow(dead_code)]
 

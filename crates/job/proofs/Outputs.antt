@@ -56,7 +56,7 @@ report-short v marks xs eight few small =
 -- ---- what the search hands over
 
 -- the list then
-abbrev pub list-of : Domain → List ℕ
+abbrev list-of : Domain → List ℕ
 list-of d = list-after d (replicate places 0)
 
 module _ (d : Domain) where
@@ -114,13 +114,13 @@ pub printed-report : (d : Domain) {first : Verdict} {listed : ℕ} → answer-of
 unfolding printed printed-for
 printed-report d e = rw e
 
--- a refusal is printed
+-- where the search refuses, the line of the refusal is printed
 pub output-refused : (job : Reading) {n : ℕ} → job-answer job places ≡ Refused n → output-with job ≡ refused n
 unfolding job-answer output-with
 output-refused (Read d) e = printed-refused d e
 output-refused Malformed {n} e = let same : reading-refusal Malformed ≡ n = cc in ap refused same
 
--- or what is in the marks and at the front of the list
+-- where it does not, what is printed is in the marks and at the front of the list
 pub record Reported (job : Reading) (first : Verdict) (listed : ℕ) (marks list : List ℕ) : Type 0 where
   pub eight : length marks ≡ 8
   pub small : Small-marks marks

@@ -63,15 +63,17 @@ printed-for (Searched first listed) d = report first (marks-of d) (hard-argument
 unfoldable pub printed : Domain → List ℕ
 printed d = printed-for (answer-of d) d
 
--- the answer to print for a job, with so many places, and for a text that is none; and what is left in the marks and in the list then
+-- the answer to a text, with so many places: that of the domain search, or refusal 8
 unfoldable pub job-answer : Reading → (places : ℕ) → DomainAnswer
 job-answer (Read d) n = domain-answer d n
 job-answer Malformed n = Refused (reading-refusal Malformed)
 
+-- the marks then, from what they were
 unfoldable pub job-marks : Reading → (places : ℕ) → (old : List ℕ) → List ℕ
 job-marks (Read d) n old = marks-after d n old
 job-marks Malformed n old = old
 
+-- the list then, from what it was
 unfoldable pub job-list : Reading → (old : List ℕ) → List ℕ
 job-list (Read d) old = list-after d old
 job-list Malformed old = old

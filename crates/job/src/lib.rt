@@ -77,7 +77,7 @@ pub fn run_job(text: &[u8], out: &mut [u8; LONGEST]) -> usize
     print_answer(read_job(text), out)
 }
 
-// Searches a job's domain and prints the answer.
+// Prints the answer to a job, or the refusal of a text that is none.
 fn print_answer(job: Reading, out: &mut [u8]) -> usize
     ensures { λ r. ⌜ r ≡ place-after 0 (output-with job) (now (out .entry)) ⌝ }
     ensures { λ r. ⌜ now (out .exit) ≡ sets (now (out .entry)) 0 (output-with job) ⌝ }
@@ -92,7 +92,7 @@ fn print_answer(job: Reading, out: &mut [u8]) -> usize
     }
 }
 
-// Searches a job's domain. A text that is no job is refused by 8, and marks and list are left as they were.
+// Searches the domain of a job. A text that is none is refused by 8, and leaves marks and list as they were.
 fn search(job: Reading, marks: &mut [u8; 8], list: &mut [u32]) -> domain::DomainAnswer
     ensures { λ r. ⌜ r ≡ job-answer job (length (now (list .entry))) ⌝ }
     ensures { λ r. ⌜ now (marks .exit) ≡ job-marks job (length (now (list .entry))) (now (marks .entry)) ⌝ }

@@ -1,5 +1,5 @@
 -- Lists that ascend strictly, number by number from a bound on; members and their places; lists without entries; an array that begins with a list and has zeros after
--- it. Assumes nothing.
+-- it; what stands from a place on. Assumes nothing.
 use mathlib.Core.Path.{_≡_, refl, sym, _∙_, ap}
 use mathlib.Core.List.{List, [], _∷_, _++_, List·Memᴰ, List·Memᴰ·not-nil, List·Memᴰ·cases-cons}
 use mathlib.Core.List.List·Memᴰ.{List·Memᴰ·head, List·Memᴰ·tail}
@@ -7,8 +7,8 @@ use mathlib.Core.Logic.{⊎-elim}
 use Prim.Native.Nat.{ℕ, zero, suc, _+_, _-_, _≤_, _<_}
 use native.Mathlib.Nat.{suc-sub-suc, sub-zero, zero-sub, not-suc-le-zero}
 use native.Mathlib.Omega.{arith}
-use lib.ListN.{length, getD, drop, replicate, length-append, length-replicate, List·getD-append}
-use lib.Seq.{getD-append-add, drop-drop, drop-at}
+use lib.ListN.{length, getD, set, drop, replicate, length-append, length-replicate, length-set, List·getD-append}
+use lib.Seq.{getD-append-add, drop-drop, drop-at, drop-cons, drop-set-lt, getD-set-same}
 use Rattle.numbers.specs.Lists.{zero-padded}
 
 -- strictly ascending, by places: of two places the later one holds the larger number
@@ -73,6 +73,11 @@ unfolding zero-padded
 padded-after n xs i h =
     let e : i ≡ length xs + (i - length xs) = omega arith in
     rw e (getD-append-add xs (replicate (n - length xs) 0) (i - length xs) 0 ∙ zeros-at (n - length xs) (i - length xs))
+
+-- an entry that was written, and what follows it
+pub drop-set : (xs : List ℕ) (i x : ℕ) → i < length xs → drop i (set xs i x) ≡ x ∷ drop (suc i) xs
+drop-set xs i x h =
+    drop-cons (set xs i x) i 0 (omega (arith, length-set xs i x)) ∙ rw (getD-set-same xs i x 0 h, drop-set-lt (suc i) xs i x (omega arith))
 
 -- what follows a piece that stands at a place
 pub after-piece : (t : List ℕ) (at : ℕ) (piece rest : List ℕ) → drop at t ≡ piece ++ rest → drop (at + length piece) t ≡ rest

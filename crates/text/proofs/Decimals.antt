@@ -8,8 +8,9 @@ use native.Mathlib.Decide.{decLt}
 use native.Mathlib.Nat.{not-suc-le-zero, zero-lt-suc, pos-of-ne-zero, pow-suc, div-lt-iff-lt-mul}
 use native.Mathlib.Omega.{arith}
 use lib.ListN.{length, set, take, drop, length-append, length-set, length-drop}
-use lib.Seq.{take-all, drop-length, drop-cons, drop-set-lt, getD-set-same}
+use lib.Seq.{take-all, drop-length}
 use borrow.Author.Tests.{lt-ltb, le-ltb}
+use Rattle.numbers.proofs.Lists.{drop-set}
 use Rattle.text.specs.Text.{digit, decimal-within, decimal}
 
 -- ---- the recurrence
@@ -65,17 +66,12 @@ module _ (x : ℕ) (low : 48 ≤ x) (high : x ≤ 57) where
 
 -- ---- from the last place down
 
--- of so many places those after `first` have the last digits of n; those of `left` come before them, and have room up to `first`
+-- of `size` places those after `first` hold the last digits of n; the digits of `left` are still to come, and fit up to `first`
 pub record Digits-after (size n : ℕ) (places : List ℕ) (first left : ℕ) : Type 0 where
   pub digits : decimal left ++ drop (suc first) places ≡ decimal n
   pub room : left < 10 ^ suc first
   pub within : first < size
   pub size-kept : length places ≡ size
-
--- a list from a place on that was written
-from-written : (places : List ℕ) (i x : ℕ) → i < length places → drop i (set places i x) ≡ x ∷ drop (suc i) places
-from-written places i x h =
-    drop-cons (set places i x) i 0 (omega (arith, length-set places i x)) ∙ rw (getD-set-same places i x 0 h, drop-set-lt (suc i) places i x (omega arith))
 
 -- nothing is written yet
 pub none-written : {last n : ℕ} {places : List ℕ} → length places ≡ suc last → n < 10 ^ suc last → Digits-after (suc last) n places last n
@@ -94,7 +90,7 @@ module _ {size n : ℕ} {places : List ℕ} {first left : ℕ} (w : Digits-after
       let d = digit (left % 10) in
       record {
         digits =
-            rw (e, from-written places first d (omega arith), ← append-assoc (decimal (left / 10)) (d ∷ []) (drop (suc first) places), ← more-digits left h) (w .digits);
+            rw (e, drop-set places first d (omega arith), ← append-assoc (decimal (left / 10)) (d ∷ []) (drop (suc first) places), ← more-digits left h) (w .digits);
         room = rw e (tenth-below first left (w .room));
         within = omega arith;
         size-kept = length-set places first d ∙ w .size-kept;
@@ -105,7 +101,7 @@ module _ {size n : ℕ} {places : List ℕ} {first left : ℕ} (w : Digits-after
   first-written h =
       let now = set places first (digit left) in
       take-all (size - first) (drop first now) (omega (arith, length-drop first now, length-set places first (digit left)))
-      ∙ rw (from-written places first (digit left) (omega arith), ← w .digits, one-digit left h)
+      ∙ rw (drop-set places first (digit left) (omega arith), ← w .digits, one-digit left h)
 
 -- ---- how many
 

@@ -45,7 +45,7 @@ module _ {bytes old : List ℕ} {at n : ℕ} {now : List ℕ} {i : ℕ} (w : Fro
 
 -- ---- a line
 
--- each piece is written as a function says that tells the place after it
+-- a line, by the contracts of the calls that write its name, what follows it, and the line feed
 pub line-written : (name written old : List ℕ) (at : ℕ) {named filled new : List ℕ} {after-name after-written end : ℕ}
     → (after-name ≡ place-after at name old) × (named ≡ sets old at name)
     → (after-written ≡ place-after after-name written named) × (filled ≡ sets named after-name written)

@@ -74,8 +74,8 @@ pub fn put_byte(x: u8, out: &mut [u8], at: usize) -> usize
     at + 1
 }
 
-// The same for a number in decimal. Its digits come by division by ten, the last one first, and so fill places from the last one down; twenty
-// are enough for every number below 2^64.
+// The same for a number in decimal. Division by ten gives the last digit first, so the digits fill an array of twenty bytes from its end; every
+// number below 2^64 fits.
 pub fn put_number(n: u64, out: &mut [u8], at: usize) -> usize
     ensures { λ r. ⌜ r ≡ place-after at (decimal n) (now (out .entry)) ⌝ }
     ensures { λ r. ⌜ now (out .exit) ≡ sets (now (out .entry)) at (decimal n) ⌝ }

@@ -1,8 +1,8 @@
 -- `text::put_number` meets its contract.
 -- The loop's invariant: of the twenty places those after `first` have the number's last digits, and the digits of `left` come before them. The
 -- measure is `left`. Assumes nothing.
-use native.Mathlib.Omega.{arith}
 use mathlib.Core.Path.{refl}
+use native.Mathlib.Omega.{arith}
 use borrow.Author.Needs.{needs}
 use lib.ListN.{length-set}
 use Rattle.text.specs.Text.{digit}
