@@ -1,7 +1,7 @@
 -- Lists that ascend strictly, number by number from a bound on; members and their places; lists without entries; an array that begins with a list and has zeros after
 -- it; what stands from a place on. Assumes nothing.
 use mathlib.Core.Path.{_≡_, refl, sym, _∙_, ap}
-use mathlib.Core.List.{List, [], _∷_, _++_, List·Memᴰ, List·Memᴰ·not-nil, List·Memᴰ·cases-cons}
+use mathlib.Core.List.{List, [], _∷_, _++_, map, List·Memᴰ, List·Memᴰ·not-nil, List·Memᴰ·cases-cons}
 use mathlib.Core.List.List·Memᴰ.{List·Memᴰ·head, List·Memᴰ·tail}
 use mathlib.Core.Logic.{⊎-elim}
 use Prim.Native.Nat.{ℕ, zero, suc, _+_, _-_, _≤_, _<_}
@@ -42,6 +42,12 @@ module _ {A : Type 0} (d : A) where
   member-place x [] m = absurd (List·Memᴰ·not-nil m)
   member-place x (y ∷ xs) m =
       ⊎-elim (λ e. (0, omega arith, sym e)) (λ t. let p = member-place x xs t in (suc (p .0), omega (arith, p .1), p .2)) (List·Memᴰ·cases-cons m)
+
+-- a function of every entry, at a place; `List·getD-map` says it of every place, with f of the default for the default
+pub mapped-at : (f : ℕ → ℕ) (xs : List ℕ) (i : ℕ) → i < length xs → getD (map f xs) i 0 ≡ f (getD xs i 0)
+mapped-at f [] i h = absurd (not-suc-le-zero h)
+mapped-at f (x ∷ xs) zero h = refl
+mapped-at f (x ∷ xs) (suc i) h = mapped-at f xs i (omega arith)
 
 -- a list without entries
 pub no-entries : (xs : List ℕ) → length xs ≤ 0 → xs ≡ []

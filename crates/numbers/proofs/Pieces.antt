@@ -2,7 +2,7 @@
 -- they list is what the stretch lists. Assumes nothing.
 use mathlib.Core.Path.{_≡_, refl, sym, _∙_, ap, ap₂}
 use mathlib.Core.Bool.{Bool}
-use mathlib.Core.List.{List, [], _++_}
+use mathlib.Core.List.{List, [], _++_, map, map-append}
 use mathlib.Core.Logic.{by-cases}
 use Prim.Native.Nat.{ℕ, zero, suc, _+_, _-_, _≤_, _<_}
 use native.Mathlib.Nat.{zero-add}
@@ -22,6 +22,12 @@ unfolding joined
 joined-next f n i h =
     let left : n - i ≡ suc (n - suc i) = omega arith in
     rw left
+
+-- a function of every number of lists one after another
+pub map-joined : (f : ℕ → ℕ) (g : ℕ → List ℕ) (n i : ℕ) → map f (joined g n i) ≡ joined (λ j. map f (g j)) n i
+unfolding joined
+map-joined f g zero i = refl
+map-joined f g (suc n) i = map-append f (g i) (joined g n (suc i)) ∙ ap (λ (xs : List ℕ). map f (g i) ++ xs) (map-joined f g n (suc i))
 
 -- ---- starts of pieces
 

@@ -62,6 +62,11 @@ module _ (p : ℕ → Bool) where
   filter-empty zero x h = refl
   filter-empty (suc n) x h = rw (h x (omega arith) (omega arith)) (filter-empty n (suc x) (λ y l k. h y (omega arith) (omega arith)))
 
+  -- all of them, where every one has it
+  pub filter-full : (left x : ℕ) → ((y : ℕ) → p y ≡ true) → length (filter-range p left x) ≡ left
+  filter-full zero x h = ap length (filter-none x)
+  filter-full (suc n) x h = ap length (filter-hit n x (h x)) ∙ ap suc (filter-full n (suc x) h)
+
   -- each is at least where they begin, and larger than the one before
   pub filter-ascends : (left x n : ℕ) → n ≤ x → Ascending-from n (filter-range p left x)
   unfolding filter-range
@@ -133,6 +138,11 @@ pub one-at-most : (b : Bool) → cond b 1 0 ≤ 1
 one-at-most true = omega arith
 one-at-most false = omega arith
 
+-- what counts for one holds
+pub counts-one : (b : Bool) → 1 ≤ cond b 1 0 → b ≡ true
+counts-one true h = refl
+counts-one false h = absurd (omega arith)
+
 -- ---- those of the numbers below n that are not below x
 
 abbrev pub filter-from : (property : ℕ → Bool) → (n x : ℕ) → List ℕ
@@ -156,6 +166,13 @@ module _ (p : ℕ → Bool) (n x : ℕ) where
     from-length =
         (elim (p x) as (λ b. p x ≡ b → length (filter-from p n x) ≡ cond b 1 0 + length (filter-from p n (suc x)))
         [ true ↦ λ e. ap length (from-hit e) ∙ omega arith | false ↦ λ e. ap length (from-miss e) ∙ omega arith ]) refl
+
+    -- where as many have the property as there are, the first has it, and so it is of the others
+    pub from-full : length (filter-from p n x) ≡ n - x → (p x ≡ true) × (length (filter-from p n (suc x)) ≡ n - suc x)
+    from-full e =
+        let few = filter-few p (n - suc x) (suc x) in
+        let most = one-at-most (p x) in
+        (counts-one (p x) (omega (arith, e, from-length, few, most)), omega (arith, e, from-length, few, most))
 
 -- ---- the same property seen from elsewhere
 
