@@ -1,6 +1,6 @@
 //! Searches of domains and scans: the proved calls against unverified Rust. First domains with a modulus from 2^61 to 2^62: those
 //! that phase 1 clears, also beside the proved regular search of their covering segments alone, and domains as they come. Then one
-//! pass of a scan, for each argument, against loops that only count.
+//! pass of a scan, for each argument, against loops that only count, and scans that list every argument and its value.
 //!
 //! For comparison: slides 004 imply 248 ns a domain (34,040 s for 2^37 domains on one core of 2010).
 
@@ -21,6 +21,9 @@ const DOMAINS: usize = 32_768;
 
 /// The places that the job program has.
 const PLACES: usize = 4096;
+
+/// The most arguments, and as many places.
+const MOST: usize = 1 << 20;
 
 #[derive(Clone, Copy)]
 struct Domain {
@@ -80,14 +83,14 @@ impl Domain {
         }
     }
 
-    /// Shows the hard arguments one by one.
+    /// Shows the hard arguments and their values one by one.
     #[inline(always)]
-    fn scan(&self, mut hard: impl FnMut(u64)) {
+    fn scan(&self, mut hard: impl FnMut(u64, u64)) {
         let (mut value, mut slope) = (self.value, self.slope);
         let curve = self.curve.rem_euclid(self.modulus as i64) as u64;
         for x in 0..self.count {
             if value < self.window || self.modulus - value < self.window {
-                hard(x);
+                hard(x, value);
             }
             value = add_and_correct(value, slope, self.modulus);
             slope = add_and_correct(slope, curve, self.modulus);
@@ -119,7 +122,7 @@ fn compare_and_add(a: u64, b: u64, modulus: u64) -> u64 {
 
 /// The search of a domain as documents 01 and 02 have it, plainly and unverified.
 #[inline(never)]
-fn search(domain: &Domain, list: &mut [u32], marks: &mut Marks, searched: &mut Searched) -> u32 {
+fn search(domain: &Domain, list: &mut [u32], values: &mut [u64], marks: &mut Marks, searched: &mut Searched) -> u32 {
     let Domain { modulus, value, slope, curve, count, window } = *domain;
     let refusal = tuned::refusal(modulus, slope, value, count, window);
     if refusal != 0 {
@@ -135,12 +138,18 @@ fn search(domain: &Domain, list: &mut [u32], marks: &mut Marks, searched: &mut S
         *searched = [1, 0];
         return 0;
     }
-    search_parts(domain, list, marks, searched)
+    search_parts(domain, list, values, marks, searched)
 }
 
 /// Phases 2 and 3.
 #[inline(never)]
-fn search_parts(domain: &Domain, list: &mut [u32], marks: &mut Marks, searched: &mut Searched) -> u32 {
+fn search_parts(
+    domain: &Domain,
+    list: &mut [u32],
+    values: &mut [u64],
+    marks: &mut Marks,
+    searched: &mut Searched,
+) -> u32 {
     let (mut found, mut hard) = ([1; 8], 0);
     for ((h, count), mark) in domain.parts().zip(&mut found) {
         if count == 0 {
@@ -152,16 +161,19 @@ fn search_parts(domain: &Domain, list: &mut [u32], marks: &mut Marks, searched: 
         same::fine(part.modulus, covering.step, covering.start, count, covering.window, &mut shown);
         if shown[5] == 0 {
             *mark = 2;
-            part.scan(|_| hard += 1);
+            part.scan(|_, _| hard += 1);
         }
     }
-    if hard > list.len() {
+    if hard > list.len().min(values.len()) {
         return 7;
     }
     if hard > 0 {
-        let mut places = list.iter_mut();
+        let mut places = list.iter_mut().zip(values);
         for ((h, count), _) in domain.parts().zip(&found).filter(|(_, &mark)| mark == 2) {
-            domain.part(h, count).scan(|x| *places.next().unwrap() = (h + x) as u32);
+            domain.part(h, count).scan(|x, v| {
+                let (argument, value) = places.next().unwrap();
+                (*argument, *value) = ((h + x) as u32, v);
+            });
         }
     }
     *marks = found;
@@ -171,7 +183,8 @@ fn search_parts(domain: &Domain, list: &mut [u32], marks: &mut Marks, searched: 
 
 /// The memory that the calls are lent.
 struct Memory {
-    list: [u32; PLACES],
+    list: Vec<u32>,
+    values: Vec<u64>,
     marks: Marks,
     searched: Searched,
     shown: [u64; 5],
@@ -179,14 +192,16 @@ struct Memory {
 }
 
 impl Memory {
-    fn new() -> Self {
-        Memory { list: [0; PLACES], marks: [0; 8], searched: [0; 2], shown: [0; 5], listed: 0 }
+    fn new(places: usize) -> Self {
+        let (list, values) = (vec![0; places], vec![0; places]);
+        Memory { list, values, marks: [0; 8], searched: [0; 2], shown: [0; 5], listed: 0 }
     }
 }
 
 fn proved(domain: &Domain, to: &mut Memory) -> u32 {
     let Domain { modulus, value, slope, curve, count, window } = *domain;
-    c_api::search_domain(modulus, value, slope, curve, count, window, &mut to.list, &mut to.marks, &mut to.searched)
+    let (list, values) = (&mut to.list, &mut to.values);
+    c_api::search_domain(modulus, value, slope, curve, count, window, list, values, &mut to.marks, &mut to.searched)
 }
 
 fn proved_regular(segment: &Segment, to: &mut Memory) -> u32 {
@@ -196,11 +211,11 @@ fn proved_regular(segment: &Segment, to: &mut Memory) -> u32 {
 
 fn proved_scan(segment: &Segment, to: &mut Memory) -> u32 {
     let Segment { modulus, step, start, count, window } = *segment;
-    c_api::scan_segment(modulus, step, start, count, window, &mut to.list, &mut to.listed)
+    c_api::scan_segment(modulus, step, start, count, window, &mut to.list, &mut to.values, &mut to.listed)
 }
 
 fn unverified(domain: &Domain, to: &mut Memory) -> u32 {
-    search(domain, &mut to.list, &mut to.marks, &mut to.searched)
+    search(domain, &mut to.list, &mut to.values, &mut to.marks, &mut to.searched)
 }
 
 /// Nanoseconds for each of the inputs.
@@ -214,9 +229,9 @@ fn nanoseconds<I, A>(inputs: &[I], memory: &mut Memory, call: impl Fn(&I, &mut M
 }
 
 /// What a search answers to a domain.
-fn answer(search: fn(&Domain, &mut Memory) -> u32, domain: &Domain) -> (u32, Searched, Marks, Vec<u32>) {
-    let mut memory = Memory::new();
-    (search(domain, &mut memory), memory.searched, memory.marks, memory.list.to_vec())
+fn answer(search: fn(&Domain, &mut Memory) -> u32, domain: &Domain) -> (u32, Searched, Marks, Vec<u32>, Vec<u64>) {
+    let mut memory = Memory::new(PLACES);
+    (search(domain, &mut memory), memory.searched, memory.marks, memory.list, memory.values)
 }
 
 fn is_cleared(domain: &Domain) -> bool {
@@ -238,7 +253,7 @@ fn domains(number: usize, count: u64) -> Vec<Domain> {
 
 /// Domains that phase 1 clears: beside one proved regular search of each covering segment, and beside unverified Rust.
 fn cleared_domains(domains: &[Domain]) {
-    let (coverings, mut memory) = (domains.iter().map(Domain::covering).collect::<Vec<_>>(), Memory::new());
+    let (coverings, mut memory) = (domains.iter().map(Domain::covering).collect::<Vec<_>>(), Memory::new(PLACES));
     let names = ["cleared domain N=2^15, beside one proved regular search", "cleared domain N=2^15"];
     measure(names, 1, || {
         let proved = nanoseconds(domains, &mut memory, proved);
@@ -249,7 +264,7 @@ fn cleared_domains(domains: &[Domain]) {
 
 /// Domains as they come, some of which go to phase 2.
 fn mixed_domains(name: &str, domains: &[Domain]) {
-    let mut memory = Memory::new();
+    let mut memory = Memory::new(PLACES);
     let possible = domains.iter().filter(|domain| !is_cleared(domain)).count();
     let name = format!("domains N={name}, {possible} of {} to phase 2", domains.len());
     measure([&name], 1, || {
@@ -303,7 +318,7 @@ fn count_raised(domain: &Domain, add: impl Fn(u64, u64, u64) -> u64) -> u64 {
 
 /// Scans of segments of which no argument is hard, so that none is listed: one pass.
 fn scans() {
-    let mut memory = Memory::new();
+    let mut memory = Memory::new(PLACES);
     let segments: Vec<Segment> = common::lines(4)
         .iter()
         .map(|&[modulus, step, start]| Segment { modulus, step, start, count: 1 << 20, window: 1 })
@@ -320,18 +335,21 @@ fn scans() {
     });
 }
 
-/// Domains with curves so large that the window of every covering segment is the modulus: all eight parts are scanned, with no
-/// argument hard.
-fn domain_scans() {
-    let mut memory = Memory::new();
-    let domains: Vec<Domain> = common::lines(4)
+/// Domains with curves so large that the window of every covering segment is the modulus, and no argument hard.
+fn curved() -> Vec<Domain> {
+    common::lines(4)
         .iter()
         .zip([1 << 20, -(1 << 20)].iter().cycle())
         .map(|(&[modulus, slope, value], &curve)| {
             let modulus = modulus >> 10;
             Domain { modulus, value: value % modulus, slope: slope % modulus, curve, count: 1 << 20, window: 1 }
         })
-        .collect();
+        .collect()
+}
+
+/// All eight parts of a domain scanned, with no argument hard.
+fn domain_scans() {
+    let (mut memory, domains) = (Memory::new(PLACES), curved());
     for domain in &domains {
         assert_eq!((proved(domain, &mut memory), memory.searched, memory.marks), (0, [0, 0], [2; 8]));
     }
@@ -343,6 +361,86 @@ fn domain_scans() {
         let raised = nanoseconds(&domains, &mut memory, |domain, _| count_raised(domain, add_and_correct));
         let comparing_first = nanoseconds(&domains, &mut memory, |domain, _| count_either_side(domain, compare_and_add));
         (proved, [plain, raised, comparing_first])
+    });
+}
+
+/// Writes the hard arguments of a segment and their residues by a loop over them all; it does not test whether there is room.
+#[inline(never)]
+fn list_segment(segment: &Segment, to: &mut Memory, add: impl Fn(u64, u64, u64) -> u64) -> u32 {
+    let Segment { modulus, step, start, count, window } = *segment;
+    let slope = if step == 0 { 0 } else { modulus - step };
+    let (mut residue, mut at) = (start, 0);
+    for x in 0..count as u32 {
+        if residue < window {
+            // Safe: the callers have a place for every argument.
+            unsafe { (*to.list.get_unchecked_mut(at), *to.values.get_unchecked_mut(at)) = (x, residue) };
+            at += 1;
+        }
+        residue = add(residue, slope, modulus);
+    }
+    to.listed = at as u64;
+    0
+}
+
+/// The same, with the hard arguments counted before anything is written.
+fn count_and_list_segment(segment: &Segment, to: &mut Memory) -> u32 {
+    let hard = count_segment(segment, compare_and_add);
+    if (to.list.len().min(to.values.len()) as u64) < hard {
+        return 7;
+    }
+    list_segment(segment, to, compare_and_add)
+}
+
+/// Scans of segments of which every argument is hard, so that all are listed. With the modulus for the window the proved scan knows
+/// that and does not count; with one less it counts first, and no residue is so large.
+fn full_scans(name: &str, count: u64, less: u64) {
+    let mut memory = Memory::new(count as usize);
+    let segments: Vec<Segment> = common::lines(4 * MOST / count as usize)
+        .iter()
+        .map(|&[modulus, step, start]| Segment { modulus, step, start, count, window: modulus - less })
+        .collect();
+    let plain = |segment: &Segment, to: &mut Memory| list_segment(segment, to, add_and_correct);
+    let comparing_first = |segment: &Segment, to: &mut Memory| list_segment(segment, to, compare_and_add);
+    let mut other = Memory::new(count as usize);
+    for segment in &segments {
+        assert_eq!((proved_scan(segment, &mut memory), plain(segment, &mut other)), (0, 0));
+        assert_eq!((memory.listed, &memory.list, &memory.values), (count, &other.list, &other.values));
+    }
+    let name = format!("scan that lists all, per argument {name}");
+    let names = [&name, &format!("{name}, comparing first"), &format!("{name}, counted before")];
+    measure(names.map(|name| name.as_str()), count, || {
+        let proved = nanoseconds(&segments, &mut memory, proved_scan);
+        let plain = nanoseconds(&segments, &mut memory, plain);
+        let comparing_first = nanoseconds(&segments, &mut memory, comparing_first);
+        (proved, [plain, comparing_first, nanoseconds(&segments, &mut memory, count_and_list_segment)])
+    });
+}
+
+/// Writes the hard arguments of a domain and their values by a loop over them all.
+#[inline(never)]
+fn list_domain(domain: &Domain, to: &mut Memory) -> u32 {
+    let mut at = 0;
+    domain.scan(|x, value| {
+        // Safe: the callers have a place for every argument.
+        unsafe { (*to.list.get_unchecked_mut(at), *to.values.get_unchecked_mut(at)) = (x as u32, value) };
+        at += 1;
+    });
+    to.searched = [0, at as u64];
+    0
+}
+
+/// Domains of which every argument is hard, with curves so large that no part is cleared.
+fn full_domains() {
+    let mut memory = Memory::new(MOST);
+    let domains: Vec<Domain> = curved().into_iter().map(|domain| Domain { window: domain.modulus, ..domain }).collect();
+    let mut other = Memory::new(MOST);
+    for domain in &domains {
+        assert_eq!((proved(domain, &mut memory), list_domain(domain, &mut other)), (0, 0));
+        assert_eq!((memory.searched, &memory.list, &memory.values), (other.searched, &other.list, &other.values));
+    }
+    measure(["domain that lists all, per argument N=2^20"], MOST as u64, || {
+        let proved = nanoseconds(&domains, &mut memory, proved);
+        (proved, [nanoseconds(&domains, &mut memory, list_domain)])
     });
 }
 
@@ -359,4 +457,8 @@ fn main() {
     mixed_domains("2^15 - 3", &with_rest[..DOMAINS]);
     scans();
     domain_scans();
+    full_scans("N=2^20", 1 << 20, 0);
+    full_scans("N=2^12", 1 << 12, 0);
+    full_scans("N=2^20 w=M-1", 1 << 20, 1);
+    full_domains();
 }

@@ -1,7 +1,7 @@
 //! Printing a full list: the proved program against unverified Rust that writes the same lines, for each of them. `bench/program` makes
 //! a library of the program, which is called within this process and gets its input and output calls from here. A run reads the job,
-//! searches and prints; what a line costs is what a job that lists 4,096 arguments of seven digits takes more than one that lists a
-//! single argument and scans as many, less what the search alone takes more.
+//! searches and prints; what a line costs is what a job that lists 4,096 arguments of seven digits with values of nineteen takes more
+//! than one that lists a single argument and scans as many, less what the search alone takes more.
 
 #[path = "../tests/c_api.rs"]
 mod c_api;
@@ -13,8 +13,8 @@ use std::hint::black_box;
 use std::io::Write;
 use std::time::Instant;
 
-/// The bytes of the longest answer, and the places of a job's list.
-const LONGEST: usize = 69_674;
+/// The bytes of the longest answer, and the places of a job's list and values.
+const LONGEST: usize = 176_170;
 const PLACES: usize = 4096;
 
 /// How often a job is run in a row.
@@ -59,16 +59,16 @@ unsafe extern "C" fn program_write(_: i32, from: *const u8, length: usize) -> is
     length as isize
 }
 
-/// A line whose value is 0 at an argument so near the end of the domain that its last 4,096 arguments, and no others, are less than
-/// 2,049 away from a multiple of the modulus.
+/// A line whose last value is one less than the modulus, so that its last w - 1 arguments, and no others, are less than the window away
+/// from a multiple of the modulus.
 struct Job {
     window: u64,
 }
 
 impl Job {
-    const MODULUS: u64 = 1 << 40;
+    const MODULUS: u64 = 1 << 62;
     const COUNT: u64 = 1 << 20;
-    const VALUE: u64 = Self::MODULUS + 2048 - Self::COUNT;
+    const VALUE: u64 = Self::MODULUS - Self::COUNT;
 
     fn text(&self) -> String {
         let Job { window } = self;
@@ -84,10 +84,10 @@ impl Job {
     }
 
     /// The search of its domain alone; how many arguments it listed.
-    fn search(&self, list: &mut [u32; PLACES]) -> u64 {
+    fn search(&self, list: &mut [u32; PLACES], values: &mut [u64; PLACES]) -> u64 {
         let (mut marks, mut searched) = ([0; 8], [0; 2]);
         let (modulus, value, count, window) = (Self::MODULUS, Self::VALUE, Self::COUNT, self.window);
-        c_api::search_domain(modulus, value, 1, 0, count, window, list, &mut marks, &mut searched);
+        c_api::search_domain(modulus, value, 1, 0, count, window, list, values, &mut marks, &mut searched);
         searched[1]
     }
 }
@@ -121,20 +121,22 @@ mod same {
         put(&digits[first..], out, at)
     }
 
-    pub fn lines(arguments: &[u32], out: &mut [u8]) -> usize {
-        arguments.iter().fold(0, |at, &argument| {
+    pub fn lines(arguments: &[u32], values: &[u64], out: &mut [u8]) -> usize {
+        arguments.iter().zip(values).fold(0, |at, (&argument, &value)| {
             let after_name = put(b"argument=", out, at);
-            let after_number = put_number(argument as u64, out, after_name);
-            put_byte(b'\n', out, after_number)
+            let after_argument = put_number(argument as u64, out, after_name);
+            let after_value_name = put(b" value=", out, after_argument);
+            let after_value = put_number(value, out, after_value_name);
+            put_byte(b'\n', out, after_value)
         })
     }
 }
 
 /// By Rust's own formatting.
-fn formatted(arguments: &[u32], out: &mut [u8]) -> usize {
+fn formatted(arguments: &[u32], values: &[u64], out: &mut [u8]) -> usize {
     let (places, mut rest) = (out.len(), out);
-    for argument in arguments {
-        writeln!(rest, "argument={argument}").unwrap();
+    for (argument, value) in arguments.iter().zip(values) {
+        writeln!(rest, "argument={argument} value={value}").unwrap();
     }
     places - rest.len()
 }
@@ -149,22 +151,27 @@ fn nanoseconds<A>(mut work: impl FnMut() -> A) -> f64 {
 }
 
 fn main() {
-    let (full, single) = (Job { window: 2049 }, Job { window: 1 });
-    let mut list = [0; PLACES];
-    assert_eq!((single.search(&mut list), full.search(&mut list)), (1, PLACES as u64));
+    let (full, single) = (Job { window: 4097 }, Job { window: 2 });
+    let (mut list, mut values) = ([0; PLACES], [0; PLACES]);
+    assert_eq!(single.search(&mut list, &mut values), 1);
+    assert_eq!(full.search(&mut list, &mut values), PLACES as u64);
     let (written, mut out) = (full.run(Some(Vec::new())).unwrap(), [0; LONGEST]);
     assert_eq!(written.len(), LONGEST);
     // Unverified code that prints something else would not be worth a comparison.
-    let unverified: [fn(&[u32], &mut [u8]) -> usize; 2] = [same::lines, formatted];
+    let unverified: [fn(&[u32], &[u64], &mut [u8]) -> usize; 2] = [same::lines, formatted];
     for lines in unverified {
-        let length = lines(&list, &mut out);
+        let length = lines(&list, &values, &mut out);
         assert!(written.ends_with(&out[..length]) && written[..LONGEST - length].ends_with(b"\nlisted=4096\n"));
     }
-    let arguments = list;
+    let listed = (list, values);
     let name = "printing a full list, per line";
     measure([name, &format!("{name}, beside write!")], PLACES as u64, || {
         let printed = nanoseconds(|| full.run(None)) - nanoseconds(|| single.run(None));
-        let searched = nanoseconds(|| full.search(&mut list)) - nanoseconds(|| single.search(&mut list));
-        (printed - searched, unverified.map(|lines| nanoseconds(|| lines(black_box(&arguments), black_box(&mut out)))))
+        let searched = nanoseconds(|| full.search(&mut list, &mut values));
+        let searched = searched - nanoseconds(|| single.search(&mut list, &mut values));
+        let write = |lines: fn(&[u32], &[u64], &mut [u8]) -> usize| {
+            nanoseconds(|| lines(black_box(&listed.0), black_box(&listed.1), black_box(&mut out)))
+        };
+        (printed - searched, unverified.map(write))
     });
 }

@@ -20,16 +20,17 @@
  *     4   count not 1 to 1,048,576
  *     5   window 0 or above the modulus
  *     6   curve below -1,048,576 or above 1,048,576
- *     7   more hard arguments than the list has places
+ *     7   more hard arguments than the list has places, or than the values have
  *     9   argument not below the period (geyserdish_digits, geyserdish_residue)
  *     10  target not below the modulus, or not a multiple of gcd(step, modulus) (geyserdish_divide)
  *
  * The caller may pass any numbers: the functions test them, and a refusal leaves all of the caller's memory as it was.
  *
  * The functions do not test pointers. The caller sees to it that each one points to memory for as many numbers as its array has,
- * or for one number. A list is two arguments, a pointer and the number of its places: it points to memory for as many numbers. No
- * two of these overlap. No pointer is null, but a list with 0 places may have a null pointer, since nothing is read or written
- * through it. What the memory holds before the call does not matter, except in the list of geyserdish_range.
+ * or for one number. A list is two arguments, a pointer and the number of its places: it points to memory for as many numbers. The
+ * values beside a list are two arguments in the same way, and may have fewer or more places than the list. No two of these overlap. No
+ * pointer is null, but a list or values with 0 places may have a null pointer, since nothing is read or written through it. What the
+ * memory holds before the call does not matter, except in the list of geyserdish_range.
  *
  * The functions keep no state and allocate nothing, so several threads may call them at once, each with memory of its own.
  */
@@ -203,11 +204,13 @@ uint32_t geyserdish_fine_search(
     uint64_t shown[6]);
 
 /*
- * The scan of a segment: its hard arguments, all of them, found by visiting every argument.
+ * The scan of a segment: its hard arguments, all of them, found by visiting every argument, and the residue of each.
  *
  * Leaves:
- *     list[0] to list[*listed - 1]   the hard arguments, each once, in ascending order; the places after them are as they were
- *     *listed                        how many hard arguments there are
+ *     list[0] to list[*listed - 1]       the hard arguments, each once, in ascending order; the places after them are as they were
+ *     values[0] to values[*listed - 1]   their residues, each at the place of its argument: values[i] is the residue at list[i], which is
+ *                                        (start - step*list[i]) mod modulus; the places after them are as they were
+ *     *listed                            how many hard arguments there are
  *
  * Returns 0, or refuses by
  *     1   modulus below 2 or above 2^62
@@ -215,8 +218,8 @@ uint32_t geyserdish_fine_search(
  *     3   start not below the modulus
  *     4   count not 1 to 1,048,576
  *     5   window 0 or above the modulus
- *     7   more hard arguments than places
- * and leaves list and *listed as they were.
+ *     7   more hard arguments than list_places, or than value_places
+ * and leaves list, values and *listed as they were.
  */
 uint32_t geyserdish_scan_segment(
     uint64_t modulus,
@@ -225,20 +228,25 @@ uint32_t geyserdish_scan_segment(
     uint64_t count,
     uint64_t window,
     uint32_t *list,
-    size_t places,
+    size_t list_places,
+    uint64_t *values,
+    size_t value_places,
     uint64_t *listed);
 
 /*
- * The search of a domain: its hard arguments, all of them. A regular search tries to clear the whole domain. Where it does not, a
- * fine search tries to clear each of eight parts, and a scan visits every argument of the parts that are not clear either. Each part
- * has count / 8 arguments, rounded down, and the first count % 8 parts have one more.
+ * The search of a domain: its hard arguments, all of them, and V of each. A regular search tries to clear the whole domain. Where it
+ * does not, a fine search tries to clear each of eight parts, and a scan visits every argument of the parts that are not clear either.
+ * Each part has count / 8 arguments, rounded down, and the first count % 8 parts have one more.
  *
  * Leaves:
- *     list[0] to list[searched[1] - 1]   the hard arguments, each once, in ascending order; the places after them are as they were
- *     marks[0] to marks[7]               of the eight parts, in order: 0, not looked at, of all eight where the domain is cleared;
- *                                        1, clear, with no hard argument; 2, possible, and scanned; 3, without arguments
- *     searched[0]                        the verdict on the whole domain: 1, cleared, with no hard argument, or 0, possible
- *     searched[1]                        how many hard arguments there are
+ *     list[0] to list[searched[1] - 1]       the hard arguments, each once, in ascending order; the places after them are as they were
+ *     values[0] to values[searched[1] - 1]   their values, each at the place of its argument: values[i] is V(list[i]) itself, from 0 to
+ *                                            modulus - 1, also where it is just below the modulus; the places after them are as they
+ *                                            were
+ *     marks[0] to marks[7]                   of the eight parts, in order: 0, not looked at, of all eight where the domain is cleared;
+ *                                            1, clear, with no hard argument; 2, possible, and scanned; 3, without arguments
+ *     searched[0]                            the verdict on the whole domain: 1, cleared, with no hard argument, or 0, possible
+ *     searched[1]                            how many hard arguments there are
  *
  * Returns 0, or refuses by
  *     1   modulus below 2 or above 2^62
@@ -247,8 +255,8 @@ uint32_t geyserdish_scan_segment(
  *     4   count not 1 to 1,048,576
  *     5   window 0 or above the modulus
  *     6   curve below -1,048,576 or above 1,048,576
- *     7   more hard arguments than places
- * and leaves list, marks and searched as they were.
+ *     7   more hard arguments than list_places, or than value_places
+ * and leaves list, values, marks and searched as they were.
  */
 uint32_t geyserdish_search_domain(
     uint64_t modulus,
@@ -258,7 +266,9 @@ uint32_t geyserdish_search_domain(
     uint64_t count,
     uint64_t window,
     uint32_t *list,
-    size_t places,
+    size_t list_places,
+    uint64_t *values,
+    size_t value_places,
     uint8_t marks[8],
     uint64_t searched[2]);
 

@@ -72,7 +72,9 @@ unsafe extern "C" {
         count: u64,
         window: u64,
         list: *mut u32,
-        places: usize,
+        list_places: usize,
+        values: *mut u64,
+        value_places: usize,
         listed: &mut u64,
     ) -> u32;
 
@@ -84,7 +86,9 @@ unsafe extern "C" {
         count: u64,
         window: u64,
         list: *mut u32,
-        places: usize,
+        list_places: usize,
+        values: *mut u64,
+        value_places: usize,
         marks: &mut Marks,
         searched: &mut Searched,
     ) -> u32;
@@ -92,9 +96,10 @@ unsafe extern "C" {
     fn geyserdish_range(list: *const u32, length: usize, lo: u32, hi: u32, start: &mut u64) -> u64;
 }
 
-// Safe: a list has as many places as its length says, and nothing overlaps it.
+// Safe: a list, and the values beside it, have as many places as their lengths say, and nothing overlaps them.
 
-/// The hard arguments of a segment into the caller's list and their number beside it, or a refusal's number.
+/// The hard arguments of a segment into the caller's list, the residue of each into the same place of the values, and their number
+/// beside them, or a refusal's number.
 pub fn scan_segment(
     modulus: u64,
     step: u64,
@@ -102,12 +107,18 @@ pub fn scan_segment(
     count: u64,
     window: u64,
     list: &mut [u32],
+    values: &mut [u64],
     listed: &mut u64,
 ) -> u32 {
-    unsafe { geyserdish_scan_segment(modulus, step, start, count, window, list.as_mut_ptr(), list.len(), listed) }
+    let (list_places, list) = (list.len(), list.as_mut_ptr());
+    let (value_places, values) = (values.len(), values.as_mut_ptr());
+    unsafe {
+        geyserdish_scan_segment(modulus, step, start, count, window, list, list_places, values, value_places, listed)
+    }
 }
 
-/// The search of a domain into the caller's list and memory, or a refusal's number.
+/// The search of a domain into the caller's list, values and memory, or a refusal's number. The value of an argument goes into its place
+/// of the values.
 pub fn search_domain(
     modulus: u64,
     value: u64,
@@ -116,11 +127,28 @@ pub fn search_domain(
     count: u64,
     window: u64,
     list: &mut [u32],
+    values: &mut [u64],
     marks: &mut Marks,
     searched: &mut Searched,
 ) -> u32 {
-    let (places, list) = (list.len(), list.as_mut_ptr());
-    unsafe { geyserdish_search_domain(modulus, value, slope, curve, count, window, list, places, marks, searched) }
+    let (list_places, list) = (list.len(), list.as_mut_ptr());
+    let (value_places, values) = (values.len(), values.as_mut_ptr());
+    unsafe {
+        geyserdish_search_domain(
+            modulus,
+            value,
+            slope,
+            curve,
+            count,
+            window,
+            list,
+            list_places,
+            values,
+            value_places,
+            marks,
+            searched,
+        )
+    }
 }
 
 /// The range of a list between two bounds: its start into the caller's memory, and its count.

@@ -1,6 +1,6 @@
-//! Scans of segments, searches of domains and ranges of lists against a reference written from documents 01 and 02 alone, which lists by
-//! going through the arguments and judges by counting residues: every small domain, random and extreme ones, refusals, the settled
-//! examples, with canaries around the caller's memory.
+//! Scans of segments, searches of domains and ranges of lists against a reference written from documents 01 and 02 alone, which lists
+//! arguments and values by going through the arguments and judges by counting residues: every small domain, random and extreme ones,
+//! refusals, the settled examples, with canaries around the caller's memory.
 
 mod c_api;
 mod drawn;
@@ -16,27 +16,62 @@ use std::fmt;
 /// Places for every argument of a small count.
 const PLENTY: usize = 40;
 
-/// The caller's memory: a list, and marks and numbers beside it.
+/// How many places the caller has for the arguments of a list, and how many for their values.
+#[derive(Clone, Copy)]
+struct Places {
+    list: usize,
+    values: usize,
+}
+
+impl Places {
+    fn of((list, values): (usize, usize)) -> Self {
+        Places { list, values }
+    }
+}
+
+impl fmt::Display for Places {
+    fn fmt(&self, f: &mut fmt::Formatter) -> fmt::Result {
+        write!(f, "{} places for arguments and {} for values", self.list, self.values)
+    }
+}
+
+/// The caller's memory: the two columns of a list, which are its arguments and their values, and marks and numbers beside it.
 #[derive(PartialEq)]
 struct Memory {
     list: Lent<u32>,
+    values: Lent,
     marks: Lent<u8>,
     numbers: Lent,
 }
 
 impl Memory {
-    fn new(places: usize, marks: usize, numbers: usize) -> Self {
-        Memory { list: Lent::new(places, 1), marks: Lent::new(marks, 3), numbers: Lent::new(numbers, 2) }
+    fn new(places: Places, marks: usize, numbers: usize) -> Self {
+        Memory {
+            list: Lent::new(places.list, 1),
+            values: Lent::new(places.values, 4),
+            marks: Lent::new(marks, 3),
+            numbers: Lent::new(numbers, 2),
+        }
     }
 
     fn canaries_live(&self, made: &Memory) -> bool {
         self.list.canaries_live(&made.list)
+            && self.values.canaries_live(&made.values)
             && self.marks.canaries_live(&made.marks)
             && self.numbers.canaries_live(&made.numbers)
     }
 }
 
-/// A call that lists hard arguments.
+/// What a call shows: the two columns of the list, and the marks and the numbers beside it. Nothing is shown of what is refused.
+#[derive(Default)]
+struct Shown {
+    list: Vec<u32>,
+    values: Vec<u64>,
+    marks: Vec<u8>,
+    numbers: Vec<u64>,
+}
+
+/// A call that lists hard arguments and their values.
 trait Listing: fmt::Debug {
     /// How many marks and numbers it shows beside the list.
     const MARKS: usize;
@@ -44,6 +79,9 @@ trait Listing: fmt::Debug {
 
     /// The refusal by the reference, whatever the places are.
     fn other_refusal(&self) -> u32;
+
+    /// What the reference shows where there are places enough.
+    fn shown(&self) -> Shown;
 
     fn call(&self, memory: &mut Memory) -> u32;
 
@@ -60,9 +98,17 @@ impl Listing for Segment {
         self.refusal()
     }
 
+    fn shown(&self) -> Shown {
+        if self.refusal() != 0 {
+            return Shown::default();
+        }
+        let list = self.hard();
+        Shown { values: self.values(&list), marks: vec![], numbers: vec![list.len() as u64], list }
+    }
+
     fn call(&self, memory: &mut Memory) -> u32 {
-        let (list, [listed]) = (memory.list.lend_list(), memory.numbers.lend());
-        c_api::scan_segment(self.modulus, self.step, self.start, self.count, self.window, list, listed)
+        let (list, values, [listed]) = (memory.list.lend_list(), memory.values.lend_list(), memory.numbers.lend());
+        c_api::scan_segment(self.modulus, self.step, self.start, self.count, self.window, list, values, listed)
     }
 }
 
@@ -74,65 +120,110 @@ impl Listing for Domain {
         self.refusal()
     }
 
+    fn shown(&self) -> Shown {
+        if self.refusal() != 0 {
+            return Shown::default();
+        }
+        let list = self.hard();
+        let numbers = vec![self.cleared() as u64, list.len() as u64];
+        Shown { values: self.values(&list), marks: self.marks().into(), numbers, list }
+    }
+
     fn call(&self, memory: &mut Memory) -> u32 {
         let Domain { modulus, value, slope, curve, count, window } = *self;
-        let (list, marks, searched) = (memory.list.lend_list(), memory.marks.lend(), memory.numbers.lend());
-        c_api::search_domain(modulus, value, slope, curve, count, window, list, marks, searched)
+        let (list, values) = (memory.list.lend_list(), memory.values.lend_list());
+        let (marks, searched) = (memory.marks.lend(), memory.numbers.lend());
+        c_api::search_domain(modulus, value, slope, curve, count, window, list, values, marks, searched)
     }
 }
 
-/// What a call shows beside the list.
-struct Shown<'a> {
-    marks: &'a [u8],
-    numbers: &'a [u64],
+/// The first place at which two columns differ.
+fn first_difference<T: PartialEq>(one: &[T], other: &[T]) -> Option<usize> {
+    one.iter().zip(other).position(|(a, b)| a != b)
 }
 
-/// Nothing is shown of what is refused.
-const NOTHING: Shown = Shown { marks: &[], numbers: &[] };
-
-/// Calls with so many places; the refusal and all of the memory have to be as the list, the marks and the numbers say.
-fn check_places<L: Listing>(input: &L, places: usize, list: &[u32], shown: &Shown) -> Result<(), String> {
-    let [made, mut lent, mut wanted] = [(); 3].map(|_| Memory::new(places, L::MARKS, L::NUMBERS));
-    let refusal = reference::listing_refusal(input.other_refusal(), list.len(), places);
+/// Calls with so many places; the refusal and all of the memory have to be as the two columns, the marks and the numbers say.
+fn check_places<L: Listing>(input: &L, places: Places, shown: &Shown) -> Result<(), String> {
+    let [mut lent, mut wanted] = [(); 2].map(|_| Memory::new(places, L::MARKS, L::NUMBERS));
+    let Shown { list, values, marks, numbers } = shown;
+    let refusal = reference::listing_refusal(input.other_refusal(), list.len(), places.list, places.values);
     let number = input.call(&mut lent);
     if number != refusal {
-        return input.wrong(&format!("refusal {number} for {refusal} with {places} places"));
+        return input.wrong(&format!("refusal {number} for {refusal} with {places}"));
     }
-    if !lent.canaries_live(&made) {
-        return input.wrong(&format!("written outside the caller's memory with {places} places"));
+    if !lent.canaries_live(&wanted) {
+        return input.wrong(&format!("written outside the caller's memory with {places}"));
     }
     if refusal == 0 {
         wanted.list.lend_list()[..list.len()].copy_from_slice(list);
-        wanted.marks.lend_list().copy_from_slice(shown.marks);
-        wanted.numbers.lend_list().copy_from_slice(shown.numbers);
+        wanted.values.lend_list()[..list.len()].copy_from_slice(values);
+        wanted.marks.lend_list().copy_from_slice(marks);
+        wanted.numbers.lend_list().copy_from_slice(numbers);
     }
     if lent == wanted {
         return Ok(());
     }
     if refusal != 0 {
-        return input.wrong(&format!("memory changed on refusal {refusal}"));
+        return input.wrong(&format!("memory changed on refusal {refusal} with {places}"));
     }
     let (has, has_marks) = (lent.numbers.part(), lent.marks.part());
-    let Shown { marks, numbers } = shown;
-    let at = lent.list.part().iter().zip(wanted.list.part()).position(|(a, b)| a != b);
+    let at = first_difference(lent.list.part(), wanted.list.part());
+    let value_at = first_difference(lent.values.part(), wanted.values.part());
     input.wrong(&format!(
-        "{has:?} for {numbers:?}, marks {has_marks:?} for {marks:?}; the list of {} differs first at {at:?}",
+        "{has:?} for {numbers:?}, marks {has_marks:?} for {marks:?}; with {places}, the list of {} differs first at \
+         {at:?} and its values at {value_at:?}",
         list.len()
     ))
 }
 
-/// Calls with as many places as the list needs, with more, with one too few and with none.
-fn check<L: Listing>(input: &L, list: &[u32], shown: &Shown) -> Result<(), String> {
-    let needed = list.len();
-    let mut places = vec![needed, needed + 3, needed.saturating_sub(1), 0];
-    places.sort();
-    places.dedup();
-    places.iter().try_for_each(|&places| check_places(input, places, list, shown))
+/// How many pairs of places take turns in the calls below.
+const TURNS: usize = 7;
+
+/// Calls with as many places as the list needs, with more, with one too few and with none, in both columns or in one of them: with five
+/// such pairs for every input, and with one of seven others in turn.
+fn check<L: Listing>(input: &L, turn: usize, shown: &Shown) -> Result<(), String> {
+    let needed = shown.list.len();
+    let (fewer, more) = (needed.saturating_sub(1), needed + 3);
+    let in_turn: [(usize, usize); TURNS] =
+        [(more, needed), (needed, more), (fewer, fewer), (fewer, more), (more, fewer), (0, needed), (needed, 0)];
+    let one = in_turn[turn % TURNS];
+    let mut pairs = [(needed, needed), (more, more), (fewer, needed), (needed, fewer), (0, 0), one].to_vec();
+    pairs.sort();
+    pairs.dedup();
+    pairs.iter().try_for_each(|&pair| check_places(input, Places::of(pair), shown))
 }
 
-/// Calls with no places, a few and many: refused by what is beside them.
+/// The same with all of the pairs.
+fn check_every_turn(input: &impl Listing, shown: &Shown) -> Result<(), String> {
+    (0..TURNS).try_for_each(|turn| check(input, turn, shown))
+}
+
+/// Calls with no places, a few and many, in both columns or in one of them: refused by what is beside them.
 fn check_refused(input: &impl Listing) -> Result<(), String> {
-    [0, 1, PLENTY].iter().try_for_each(|&places| check_places(input, places, &[], &NOTHING))
+    let pairs = [(0, 0), (1, 1), (PLENTY, PLENTY), (0, PLENTY), (PLENTY, 0)];
+    pairs.iter().try_for_each(|&pair| check_places(input, Places::of(pair), &Shown::default()))
+}
+
+/// The sets of conditions in which an input was called: its own, and too few places in the list and in the values.
+type Sets = HashSet<(Vec<bool>, [bool; 2])>;
+
+/// Calls with too few places in neither column, in one and in both, where that makes a set of conditions that is not yet among them. A
+/// column without a place has too few where the first argument is hard; with a place for every argument it has enough.
+fn check_sets<L: Listing>(
+    input: &L,
+    conflicts: &[bool],
+    count: u64,
+    first_is_hard: bool,
+    sets: &mut Sets,
+) -> Result<(), String> {
+    for few in [[false, false], [true, false], [false, true], [true, true]] {
+        let met = count <= MOST + 1 && (first_is_hard || few == [false, false]);
+        if met && sets.insert((conflicts.into(), few)) {
+            let [list, values] = few.map(|few| if few { 0 } else { count as usize });
+            check_places(input, Places { list, values }, &input.shown())?;
+        }
+    }
+    Ok(())
 }
 
 /// The domains searched and the segments scanned, each once whatever its windows; the windows, how many were refused, and what was
@@ -185,21 +276,21 @@ fn compare(domain: &Domain, tally: &mut Tally) -> Result<(), String> {
         tally.refused += 1;
         return check_refused(domain);
     }
-    let (cleared, marks, list) = (domain.cleared(), domain.marks(), domain.hard());
+    let shown = domain.shown();
     let starts = domain.starts();
     let part_of = |x| starts[..8].iter().rposition(|&start| start <= x).unwrap();
-    if list.iter().any(|&x| marks[part_of(x as u64)] != 2) {
+    if shown.list.iter().any(|&x| shown.marks[part_of(x as u64)] != 2) {
         return domain.wrong("hard where the reference clears");
     }
-    check(domain, &list, &Shown { marks: &marks, numbers: &[cleared as u64, list.len() as u64] })?;
+    check(domain, tally.windows, &shown)?;
     tally.domains.insert(domain.parabola());
     tally.windows += 1;
-    tally.cleared += cleared as usize;
-    let marked = |wanted| marks.iter().filter(|&&mark| mark == wanted).count();
+    tally.cleared += shown.numbers[0] as usize;
+    let marked = |wanted| shown.marks.iter().filter(|&&mark| mark == wanted).count();
     tally.clear_parts += marked(1);
     tally.scanned_parts += marked(2);
     tally.empty_parts += marked(3);
-    tally.listed += list.len();
+    tally.listed += shown.list.len();
     Ok(())
 }
 
@@ -208,11 +299,11 @@ fn compare_scan(segment: &Segment, tally: &mut Tally) -> Result<(), String> {
         tally.refused += 1;
         return check_refused(segment);
     }
-    let list = segment.hard();
-    check(segment, &list, &Shown { marks: &[], numbers: &[list.len() as u64] })?;
+    let shown = segment.shown();
+    check(segment, tally.windows, &shown)?;
     tally.segments.insert(segment.line());
     tally.windows += 1;
-    tally.listed += list.len();
+    tally.listed += shown.list.len();
     Ok(())
 }
 
@@ -402,10 +493,10 @@ fn random_fields_of_every_size() -> Result<Tally, String> {
     }))
 }
 
-/// Every set of the conditions 1 to 7 in conflict with each other: the lowest number wins. Beside another condition, 7 applies
-/// where the first argument is hard and there is no place.
+/// Every set of the conditions 1 to 7 in conflict with each other, 7 by the list, by the values and by both: the lowest number wins. Beside
+/// another condition, 7 applies where the first argument is hard and there is no place.
 fn every_set_of_refusals() -> Result<Tally, String> {
-    let (mut tally, mut sets) = (Tally::default(), HashSet::new());
+    let (mut tally, mut sets) = (Tally::default(), Sets::new());
     let curves = [0, 5, LARGEST_CURVE, LARGEST_CURVE + 1, -LARGEST_CURVE, -LARGEST_CURVE - 1, i64::MIN, i64::MAX];
     let counts = [0, 1, 7, 8, 12, MOST + 1, MOST + 8, 1 << 63, u64::MAX];
     for modulus in [0, 1, 2, 45, LARGEST, LARGEST + 1, 1 << 63, u64::MAX - 1] {
@@ -414,19 +505,16 @@ fn every_set_of_refusals() -> Result<Tally, String> {
             for (curve, count) in curves.iter().flat_map(|&s| counts.map(|n| (s, n))) {
                 for window in fields {
                     let domain = domain(modulus, value, slope, curve, count, window);
-                    let no_place = count > 0 && modulus > 0 && domain.is_hard(0);
-                    sets.insert((domain.conflicts(), no_place));
-                    if count <= PLENTY as u64 {
-                        sets.insert((domain.conflicts(), false));
-                    }
+                    let first_is_hard = count > 0 && modulus > 0 && domain.is_hard(0);
+                    check_sets(&domain, &domain.conflicts(), count, first_is_hard, &mut sets)?;
                     compare(&domain, &mut tally)?;
                 }
             }
         }
     }
     match sets.len() {
-        128 => Ok(tally),
-        few => Err(format!("only {few} of the 128 sets")),
+        256 => Ok(tally),
+        few => Err(format!("only {few} of the 256 sets")),
     }
 }
 
@@ -450,51 +538,63 @@ fn parts_of_the_reference() -> Result<String, String> {
     Ok(format!("{values} values"))
 }
 
-/// Document 01's examples that concern domains, as 02 leaves them, and some of 2.1 to 2.3: cleared or not, the marks and the list.
+/// What a domain shows, by hand: cleared or not, the marks, the list and its values.
+fn domain_shown(cleared: u64, marks: [u8; 8], list: &[u32], values: &[u64]) -> Shown {
+    let numbers = vec![cleared, list.len() as u64];
+    Shown { list: list.into(), values: values.into(), marks: marks.into(), numbers }
+}
+
+/// Document 01's examples that concern domains, as 02 leaves them, and some of 2.1 to 2.3 and of 2.6: cleared or not, the marks, the list and
+/// its values, which are V(x) and neither raised by the window nor moved to the other side of the multiple.
 fn settled_examples() -> Result<Tally, String> {
-    let all_eight = [0, 1, 2, 3, 4, 5, 6, 7];
-    let examples: [(&str, Domain, u64, [u8; 8], &[u32]); 15] = [
-        ("P10", domain(45, 44, 31, 0, 16, 3), 0, [2, 2, 1, 1, 1, 1, 1, 1], &[0, 3]),
-        ("P11", domain(45, 0, 0, 1, 8, 1), 0, [2, 2, 1, 1, 1, 1, 1, 1], &[0, 1]),
-        ("P11", domain(45, 0, 0, -1, 8, 1), 0, [2, 2, 1, 1, 1, 1, 1, 1], &[0, 1]),
-        ("2.1", domain(10, 3, 3, 0, 8, 2), 0, [1, 1, 2, 1, 1, 1, 2, 1], &[2, 6]),
-        ("2.1", domain(10, 3, 3, 0, 8, 6), 0, [2; 8], &all_eight),
-        ("2.1", domain(11, 5, 0, 0, 8, 5), 1, [0; 8], &[]),
-        ("2.1", domain(11, 5, 0, 0, 8, 6), 0, [2; 8], &all_eight),
-        ("2.2", domain(45, 44, 31, 0, 12, 3), 0, [2, 2, 1, 1, 1, 1, 1, 1], &[0, 3]),
-        ("2.2", domain(45, 44, 31, 0, 3, 3), 0, [2, 1, 1, 3, 3, 3, 3, 3], &[0]),
-        ("2.2", domain(45, 44, 31, 0, 1, 3), 0, [2, 3, 3, 3, 3, 3, 3, 3], &[0]),
-        ("2.2", domain(45, 0, 40, 1, 12, 2), 0, [2, 1, 1, 1, 1, 1, 1, 2], &[0, 11]),
-        ("2.2", domain(45, 0, 4, -1, 12, 2), 0, [2, 1, 1, 1, 1, 2, 1, 1], &[0, 9]),
-        ("2.2", domain(11, 5, 0, 0, 3, 5), 1, [0; 8], &[]),
-        ("2.3", domain(45, 44, 31, 0, 16, 1), 1, [0; 8], &[]),
-        ("2.3", domain(45, 44, 31, 0, 3, 45), 0, [2, 2, 2, 3, 3, 3, 3, 3], &[0, 1, 2]),
+    let (m, all_eight) = (LARGEST, [0, 1, 2, 3, 4, 5, 6, 7]);
+    let examples: [(&str, Domain, u64, [u8; 8], &[u32], &[u64]); 18] = [
+        ("P10", domain(45, 44, 31, 0, 16, 3), 0, [2, 2, 1, 1, 1, 1, 1, 1], &[0, 3], &[44, 2]),
+        ("P11", domain(45, 0, 0, 1, 8, 1), 0, [2, 2, 1, 1, 1, 1, 1, 1], &[0, 1], &[0, 0]),
+        ("P11", domain(45, 0, 0, -1, 8, 1), 0, [2, 2, 1, 1, 1, 1, 1, 1], &[0, 1], &[0, 0]),
+        ("2.1", domain(10, 3, 3, 0, 8, 2), 0, [1, 1, 2, 1, 1, 1, 2, 1], &[2, 6], &[9, 1]),
+        ("2.1", domain(10, 3, 3, 0, 8, 6), 0, [2; 8], &all_eight, &[3, 6, 9, 2, 5, 8, 1, 4]),
+        ("2.1", domain(11, 5, 0, 0, 8, 5), 1, [0; 8], &[], &[]),
+        ("2.1", domain(11, 5, 0, 0, 8, 6), 0, [2; 8], &all_eight, &[5; 8]),
+        ("2.2", domain(45, 44, 31, 0, 12, 3), 0, [2, 2, 1, 1, 1, 1, 1, 1], &[0, 3], &[44, 2]),
+        ("2.2", domain(45, 44, 31, 0, 3, 3), 0, [2, 1, 1, 3, 3, 3, 3, 3], &[0], &[44]),
+        ("2.2", domain(45, 44, 31, 0, 1, 3), 0, [2, 3, 3, 3, 3, 3, 3, 3], &[0], &[44]),
+        ("2.2", domain(45, 0, 40, 1, 12, 2), 0, [2, 1, 1, 1, 1, 1, 1, 2], &[0, 11], &[0, 0]),
+        ("2.2", domain(45, 0, 4, -1, 12, 2), 0, [2, 1, 1, 1, 1, 2, 1, 1], &[0, 9], &[0, 0]),
+        ("2.2", domain(11, 5, 0, 0, 3, 5), 1, [0; 8], &[], &[]),
+        ("2.3", domain(45, 44, 31, 0, 16, 1), 1, [0; 8], &[], &[]),
+        ("2.3", domain(45, 44, 31, 0, 3, 45), 0, [2, 2, 2, 3, 3, 3, 3, 3], &[0, 1, 2], &[44, 30, 16]),
+        // The values are 3, 5, 6, 6, 5, 3, 0, -4, and with the other sign those of the next.
+        ("2.6", domain(45, 3, 2, -1, 8, 5), 0, [2, 1, 1, 1, 1, 2, 2, 2], &[0, 5, 6, 7], &[3, 3, 0, 41]),
+        ("2.6", domain(45, 42, 43, 1, 8, 5), 0, [2, 1, 1, 1, 1, 2, 2, 2], &[0, 5, 6, 7], &[42, 42, 0, 4]),
+        ("2.6", domain(m, m - 1, 1, 0, 3, 2), 0, [2, 2, 2, 3, 3, 3, 3, 3], &[0, 1, 2], &[m - 1, 0, 1]),
     ];
-    for (name, domain, cleared, marks, list) in examples {
-        let shown = Shown { marks: &marks, numbers: &[cleared, list.len() as u64] };
-        let checked = check(&domain, list, &shown).and(check_places(&domain, 2 << 20, list, &shown));
+    for (name, domain, cleared, marks, list, values) in examples {
+        let shown = domain_shown(cleared, marks, list, values);
+        let many = Places::of((2 << 20, 2 << 20));
+        let checked = check_every_turn(&domain, &shown).and(check_places(&domain, many, &shown));
         checked.map_err(|why| format!("{name}: {why}"))?;
     }
     all(examples.map(|example| example.1))
 }
 
-/// Domains whose verdict or marks would be others with another D: cleared or not, the marks and the list, by hand.
+/// Domains whose verdict or marks would be others with another D: cleared or not, the marks, the list and its values, by hand.
 fn verdicts_by_spread() -> Result<Tally, String> {
-    let examples: [(Domain, u64, [u8; 8], &[u32]); 5] = [
-        (domain(45, 17, 0, 1, 8, 1), 0, [1; 8], &[]),
-        (domain(45, 1, 0, 1, 8, 1), 1, [0; 8], &[]),
-        (domain(45, 0, 0, 1, 16, 1), 0, [2, 1, 1, 1, 1, 2, 1, 1], &[0, 1, 10]),
-        (domain(45, 0, 0, -1, 16, 1), 0, [2, 1, 1, 1, 1, 2, 1, 1], &[0, 1, 10]),
-        (domain(45, 4, 16, -2, 24, 2), 0, [2, 2, 1, 1, 2, 2, 1, 2], &[3, 14, 23]),
+    let examples: [(Domain, u64, [u8; 8], &[u32], &[u64]); 5] = [
+        (domain(45, 17, 0, 1, 8, 1), 0, [1; 8], &[], &[]),
+        (domain(45, 1, 0, 1, 8, 1), 1, [0; 8], &[], &[]),
+        (domain(45, 0, 0, 1, 16, 1), 0, [2, 1, 1, 1, 1, 2, 1, 1], &[0, 1, 10], &[0, 0, 0]),
+        (domain(45, 0, 0, -1, 16, 1), 0, [2, 1, 1, 1, 1, 2, 1, 1], &[0, 1, 10], &[0, 0, 0]),
+        (domain(45, 4, 16, -2, 24, 2), 0, [2, 2, 1, 1, 2, 2, 1, 2], &[3, 14, 23], &[1, 1, 1]),
     ];
-    for (domain, cleared, marks, list) in examples {
-        check(&domain, list, &Shown { marks: &marks, numbers: &[cleared, list.len() as u64] })?;
+    for (domain, cleared, marks, list, values) in examples {
+        check_every_turn(&domain, &domain_shown(cleared, marks, list, values))?;
     }
     all(examples.map(|example| example.0))
 }
 
 /// Document 01's examples without a mark that concern domains, as 02 leaves them, two more counts that 02 accepts, and a window of 0 (2.3): 5 comes
-/// after 4 and before 6.
+/// after 4 and before 6. Then 7, by the list and by the values (2.6), which comes after all of them.
 fn settled_refusals() -> Result<Tally, String> {
     let refusals = [
         (domain(1, 0, 0, 0, 8, 1), 1),
@@ -515,10 +615,34 @@ fn settled_refusals() -> Result<Tally, String> {
         (domain(45, 44, 31, i64::MIN, 16, 3), 6),
         (domain(45, 44, 31, i64::MAX, 16, 3), 6),
     ];
-    for (domain, number) in refusals {
-        if domain.call(&mut Memory::new(16, 8, 2)) != number {
-            return domain.wrong(&format!("not {number}"));
+    // The argument 0 of each is hard, and of the first one other.
+    let [two, curved, wide] = [(0, 3), (LARGEST_CURVE + 1, 3), (0, 46)].map(|(s, w)| domain(45, 44, 31, s, 16, w));
+    let by_places = [
+        (two, (2, 2), 0),
+        (two, (2, 16), 0),
+        (two, (16, 2), 0),
+        (two, (1, 2), 7),
+        (two, (2, 1), 7),
+        (two, (1, 1), 7),
+        (two, (1, 16), 7),
+        (two, (16, 1), 7),
+        (two, (0, 16), 7),
+        (two, (16, 0), 7),
+        (two, (0, 0), 7),
+        (curved, (0, 16), 6),
+        (curved, (16, 0), 6),
+        (curved, (0, 0), 6),
+        (wide, (0, 16), 5),
+        (wide, (16, 0), 5),
+        (wide, (0, 0), 5),
+    ];
+    let with_places = refusals.map(|(domain, number)| (domain, (16, 16), number)).into_iter().chain(by_places);
+    for (domain, places, number) in with_places {
+        let places = Places::of(places);
+        if domain.call(&mut Memory::new(places, 8, 2)) != number {
+            return domain.wrong(&format!("not {number} with {places}"));
         }
+        check_places(&domain, places, &domain.shown())?;
     }
     all(refusals.map(|refusal| refusal.0))
 }
@@ -567,59 +691,73 @@ fn extreme_scans() -> Result<Tally, String> {
 
 /// Every set of the conditions 1 to 5 and 7, as for domains.
 fn every_set_of_scan_refusals() -> Result<Tally, String> {
-    let (mut tally, mut sets) = (Tally::default(), HashSet::new());
+    let (mut tally, mut sets) = (Tally::default(), Sets::new());
     for modulus in [0, 1, 2, 45, LARGEST, LARGEST + 1, 1 << 63, u64::MAX - 1] {
         let fields = [0, 1, modulus.wrapping_sub(1), modulus, modulus + 1, u64::MAX];
         for (step, start) in fields.iter().flat_map(|&step| fields.map(|start| (step, start))) {
             for (count, window) in [0, 1, 7, MOST + 1, u64::MAX].iter().flat_map(|&n| fields.map(|w| (n, w))) {
                 let segment = Segment { modulus, step, start, count, window };
-                let no_place = count > 0 && modulus > 0 && segment.residue(0) < window;
-                sets.insert((segment.conflicts(), no_place));
-                if count <= PLENTY as u64 {
-                    sets.insert((segment.conflicts(), false));
-                }
+                let first_is_hard = count > 0 && modulus > 0 && segment.residue(0) < window;
+                check_sets(&segment, &segment.conflicts(), count, first_is_hard, &mut sets)?;
                 compare_scan(&segment, &mut tally)?;
             }
         }
     }
     match sets.len() {
-        64 => Ok(tally),
-        few => Err(format!("only {few} of the 64 sets")),
+        128 => Ok(tally),
+        few => Err(format!("only {few} of the 128 sets")),
     }
 }
 
-/// Document 01's example P9 and a scan with a window of M, 01's refusals that concern scans, as 02 leaves them, and 7.
+/// Document 01's example P9 with its residues, scans with a window of M, 01's refusals that concern scans, as 02 leaves them, and 7, by the
+/// list and by the values.
 fn settled_scans() -> Result<Tally, String> {
-    let examples: [([u64; 5], &[u32]); 3] =
-        [([45, 14, 44, 16, 6], &[3, 6]), ([45, 14, 44, 16, 3], &[3]), ([45, 14, 44, 3, 45], &[0, 1, 2])];
-    for (fields, list) in examples {
-        let shown = Shown { marks: &[], numbers: &[list.len() as u64] };
-        check(&segment(fields), list, &shown).map_err(|why| format!("settled: {why}"))?;
+    let examples: [([u64; 5], &[u32], &[u64]); 5] = [
+        ([45, 14, 44, 16, 6], &[3, 6], &[2, 5]),
+        ([45, 14, 44, 16, 3], &[3], &[2]),
+        ([45, 14, 44, 3, 45], &[0, 1, 2], &[44, 30, 16]),
+        ([LARGEST, 1, 1, 3, LARGEST], &[0, 1, 2], &[1, 0, LARGEST - 1]),
+        ([LARGEST, LARGEST - 1, LARGEST - 1, 3, LARGEST], &[0, 1, 2], &[LARGEST - 1, 0, 1]),
+    ];
+    for (fields, list, values) in examples {
+        let numbers = vec![list.len() as u64];
+        let shown = Shown { list: list.into(), values: values.into(), marks: vec![], numbers };
+        check_every_turn(&segment(fields), &shown).map_err(|why| format!("settled: {why}"))?;
     }
     let refusals = [
-        ([1, 0, 0, 1, 1], 1, 1),
-        ([2, 0, 0, 1, 1], 1, 0),
-        ([45, 14, 44, 0, 1], 16, 4),
-        ([45, 14, 44, 1_048_577, 1], 16, 4),
-        ([45, 14, 44, 16, 45], 16, 0),
-        ([45, 14, 44, 16, 46], 16, 5),
-        ([45, 14, 44, 16, 0], 16, 5),
-        ([45, 14, 44, 16, 0], 0, 5),
-        ([45, 14, 44, 0, 0], 16, 4),
-        ([45, 14, 44, 16, 6], 1, 7),
-        ([45, 14, 44, 16, 6], 2, 0),
+        ([1, 0, 0, 1, 1], (1, 1), 1),
+        ([2, 0, 0, 1, 1], (1, 1), 0),
+        ([45, 14, 44, 0, 1], (16, 16), 4),
+        ([45, 14, 44, 1_048_577, 1], (16, 16), 4),
+        ([45, 14, 44, 16, 45], (16, 16), 0),
+        ([45, 14, 44, 16, 46], (16, 16), 5),
+        ([45, 14, 44, 16, 46], (0, 16), 5),
+        ([45, 14, 44, 16, 46], (16, 0), 5),
+        ([45, 14, 44, 16, 0], (16, 16), 5),
+        ([45, 14, 44, 16, 0], (0, 0), 5),
+        ([45, 14, 44, 0, 0], (16, 16), 4),
+        ([45, 14, 44, 16, 6], (1, 1), 7),
+        ([45, 14, 44, 16, 6], (1, 2), 7),
+        ([45, 14, 44, 16, 6], (2, 1), 7),
+        ([45, 14, 44, 16, 6], (1, 16), 7),
+        ([45, 14, 44, 16, 6], (16, 1), 7),
+        ([45, 14, 44, 16, 6], (2, 2), 0),
+        ([45, 14, 44, 16, 6], (2, 16), 0),
+        ([45, 14, 44, 16, 6], (16, 2), 0),
     ];
     for (fields, places, number) in refusals {
-        if segment(fields).call(&mut Memory::new(places, 0, 1)) != number {
-            return segment(fields).wrong(&format!("not {number} with {places} places"));
+        let (segment, places) = (segment(fields), Places::of(places));
+        if segment.call(&mut Memory::new(places, 0, 1)) != number {
+            return segment.wrong(&format!("not {number} with {places}"));
         }
+        check_places(&segment, places, &segment.shown())?;
     }
     all_scans(refusals.map(|refusal| segment(refusal.0)))
 }
 
 /// Compares the range of a list between two bounds with the reference; the list has to stay as it is.
 fn compare_range(list: &[u32], lo: u32, hi: u32) -> Result<(), String> {
-    let [mut lent, mut wanted] = [(); 2].map(|_| Memory::new(list.len(), 0, 1));
+    let [mut lent, mut wanted] = [(); 2].map(|_| Memory::new(Places::of((list.len(), 0)), 0, 1));
     lent.list.lend_list().copy_from_slice(list);
     wanted.list.lend_list().copy_from_slice(list);
     let (start, count) = reference::range(list, lo, hi);

@@ -36,9 +36,9 @@ static struct lent fresh(const char *name, size_t width, size_t places) {
     return made;
 }
 
-/* A list with 0 places and a null pointer. */
-static struct lent nowhere(void) {
-    return fresh("list", 0, 0);
+/* A list, or values, with 0 places and a null pointer. */
+static struct lent nowhere(const char *name) {
+    return fresh(name, 0, 0);
 }
 
 /* The part that a call may write. */
@@ -57,6 +57,37 @@ static uint64_t number_at(const struct lent *lent, size_t place) {
     uint64_t number = 0; /* x86-64 has the least byte first */
     memcpy(&number, lent->memory.bytes + CANARIES + place * lent->width, lent->width);
     return number;
+}
+
+/* The two columns of a list: its arguments, and the value of each at the same place. */
+struct columns {
+    struct lent list, values;
+};
+
+static struct columns columns(size_t list_places, size_t value_places) {
+    struct columns made = {fresh("list", 4, list_places), fresh("values", 8, value_places)};
+    return made;
+}
+
+/* Places for the columns, counted from as many as there are hard arguments: enough in both, or too few in one or in both. */
+static const struct {
+    int list, values;
+} BESIDE[] = {{0, 0}, {3, 3}, {3, 0}, {0, 3}, {-1, -1}, {-1, 0}, {0, -1}, {-1, 3}, {3, -1}};
+
+/* Places for what is refused by something else: in one column or in both they may be too few besides. */
+static const struct {
+    size_t list, values;
+} REFUSED_PLACES[] = {{4, 4}, {0, 16}, {16, 0}};
+
+/* Columns with null pointers: that of the list, that of the values, and both. */
+enum { WITH_NULL = 3 };
+
+static void set_with_null(struct columns made[WITH_NULL]) {
+    for (size_t i = 0; i < WITH_NULL; i++) {
+        made[i] = columns(4, 4);
+    }
+    made[0].list = made[2].list = nowhere("list");
+    made[1].values = made[2].values = nowhere("values");
 }
 
 /* ---- the lines and counts of the checks ---- */
@@ -102,9 +133,14 @@ static void count_check(const char *call, const char *example, uint64_t returned
     }
 }
 
-static struct text with_places(const char *example, size_t places) {
+static const char *null_or_not(const struct lent *lent) {
+    return lent->width == 0 ? " (null)" : "";
+}
+
+static struct text with_places(const char *example, const struct columns *lent) {
     struct text name;
-    snprintf(name.line, sizeof name.line, "%s, %zu %s", example, places, places == 1 ? "place" : "places");
+    snprintf(name.line, sizeof name.line, "%s, places: %zu%s for arguments, %zu%s for values", example, lent->list.places,
+             null_or_not(&lent->list), lent->values.places, null_or_not(&lent->values));
     return name;
 }
 
@@ -438,57 +474,80 @@ static void check_fine_searches(void) {
 
 /* ---- the scan of a segment ---- */
 
-static void check_scan_into(struct lent list, const char *example, struct segment s, uint32_t refusal,
-                            const uint32_t hard[], uint64_t listed) {
-    struct lent has[2] = {list, fresh("listed", 8, 1)};
-    struct lent wanted[2] = {has[0], has[1]};
+static void check_scan_into(struct columns lent, const char *example, struct segment s, uint32_t refusal,
+                            const uint32_t hard[], const uint64_t residues[], uint64_t listed) {
+    struct lent has[3] = {lent.list, lent.values, fresh("listed", 8, 1)};
+    struct lent wanted[3] = {has[0], has[1], has[2]};
     if (refusal == 0) {
         set(&wanted[0], hard, listed);
-        set(&wanted[1], &listed, 1);
+        set(&wanted[1], residues, listed);
+        set(&wanted[2], &listed, 1);
     }
-    uint32_t number =
-        geyserdish_scan_segment(s.modulus, s.step, s.start, s.count, s.window, lend(&has[0]), list.places, lend(&has[1]));
-    count_check("scan", with_places(example, list.places).line, number, refusal, has, wanted, 2);
+    uint32_t number = geyserdish_scan_segment(s.modulus, s.step, s.start, s.count, s.window, lend(&has[0]), has[0].places,
+                                              lend(&has[1]), has[1].places, lend(&has[2]));
+    count_check("scan", with_places(example, &lent).line, number, refusal, has, wanted, 3);
 }
 
-/* With as many places as there are hard arguments, with more, and with one too few. */
-static void check_scan(const char *example, struct segment s, const uint32_t hard[], uint64_t listed) {
-    check_scan_into(fresh("list", 4, listed), example, s, 0, hard, listed);
-    check_scan_into(fresh("list", 4, listed + 3), example, s, 0, hard, listed);
-    if (listed > 0) {
-        check_scan_into(fresh("list", 4, listed - 1), example, s, 7, NULL, 0);
+/* In each column with as many places as there are hard arguments, with more, and with one too few. */
+static void check_scan(const char *example, struct segment s, const uint32_t hard[], const uint64_t residues[],
+                       uint64_t listed) {
+    for (size_t i = 0; i < sizeof BESIDE / sizeof BESIDE[0]; i++) {
+        int too_few = BESIDE[i].list < 0 || BESIDE[i].values < 0;
+        if (listed > 0 || !too_few) {
+            struct columns lent = columns(listed + BESIDE[i].list, listed + BESIDE[i].values);
+            check_scan_into(lent, example, s, too_few ? 7 : 0, hard, residues, listed);
+        }
     }
 }
 
+static void check_refused_scan(const char *example, struct segment s, uint32_t refusal) {
+    for (size_t i = 0; i < sizeof REFUSED_PLACES / sizeof REFUSED_PLACES[0]; i++) {
+        struct columns lent = columns(REFUSED_PLACES[i].list, REFUSED_PLACES[i].values);
+        check_scan_into(lent, example, s, refusal, NULL, NULL, 0);
+    }
+}
+
+static void check_scans_with_null(void) {
+    struct columns lent[WITH_NULL];
+    set_with_null(lent);
+    for (size_t i = 0; i < WITH_NULL; i++) {
+        check_scan_into(lent[i], "P9's segment, window 2", (struct segment){45, 14, 44, 16, 2}, 0, NULL, NULL, 0);
+        check_scan_into(lent[i], "P9, window 0", (struct segment){45, 14, 44, 16, 0}, 5, NULL, NULL, 0);
+        check_scan_into(lent[i], "P9, window 3", (struct segment){45, 14, 44, 16, 3}, 7, NULL, NULL, 0);
+        check_scan_into(lent[i], "count 0", (struct segment){45, 14, 44, 0, 3}, 4, NULL, NULL, 0);
+    }
+}
+
+/* The values are the residues, which are written above for 45 and 14, and of others worked out by hand. */
 static void check_scans(void) {
     static const struct {
         const char *example;
         struct segment segment;
         uint64_t listed;
         uint32_t hard[16];
+        uint64_t residues[16];
     } accepted[] = {
-        {"P9, window 6", {45, 14, 44, 16, 6}, 2, {3, 6}},
-        {"P9, window 3", {45, 14, 44, 16, 3}, 1, {3}},
-        {"P9's segment, window 2", {45, 14, 44, 16, 2}, 0, {0}},
-        {"window M", {45, 14, 44, 16, 45}, 16, {0, 1, 2, 3, 4, 5, 6, 7, 8, 9, 10, 11, 12, 13, 14, 15}},
-        {"modulus 2", {2, 0, 0, 1, 1}, 1, {0}},
-        {"modulus 2^62, window 2^62 - 1", {LARGEST, 1, LARGEST - 1, 1, LARGEST - 1}, 0, {0}},
-        {"modulus 2^62, window 2^62", {LARGEST, 1, LARGEST - 1, 1, LARGEST}, 1, {0}},
-        {"modulus 2^62, count 1048576", {LARGEST, 1, 1048575, 1048576, 1}, 1, {1048575}},
-        {"P5's segment, window 9", {45, 0, 9, 1048576, 9}, 0, {0}},
+        {"P9, window 6", {45, 14, 44, 16, 6}, 2, {3, 6}, {2, 5}},
+        {"P9, window 3", {45, 14, 44, 16, 3}, 1, {3}, {2}},
+        {"P9's segment, window 2", {45, 14, 44, 16, 2}, 0, {0}, {0}},
+        {"window M", {45, 14, 44, 16, 45}, 16, {0, 1, 2, 3, 4, 5, 6, 7, 8, 9, 10, 11, 12, 13, 14, 15},
+         {44, 30, 16, 2, 33, 19, 5, 36, 22, 8, 39, 25, 11, 42, 28, 14}},
+        {"modulus 2", {2, 0, 0, 1, 1}, 1, {0}, {0}},
+        {"modulus 2^62, window 2^62 - 1", {LARGEST, 1, LARGEST - 1, 1, LARGEST - 1}, 0, {0}, {0}},
+        {"modulus 2^62, window 2^62", {LARGEST, 1, LARGEST - 1, 1, LARGEST}, 1, {0}, {LARGEST - 1}},
+        {"modulus 2^62, window 2^62, count 3", {LARGEST, 1, 1, 3, LARGEST}, 3, {0, 1, 2}, {1, 0, LARGEST - 1}},
+        {"modulus 2^62, count 1048576", {LARGEST, 1, 1048575, 1048576, 1}, 1, {1048575}, {0}},
+        {"P5's segment, window 9", {45, 0, 9, 1048576, 9}, 0, {0}, {0}},
     };
     for (size_t i = 0; i < sizeof accepted / sizeof accepted[0]; i++) {
-        check_scan(accepted[i].example, accepted[i].segment, accepted[i].hard, accepted[i].listed);
+        check_scan(accepted[i].example, accepted[i].segment, accepted[i].hard, accepted[i].residues, accepted[i].listed);
     }
-    check_scan_into(fresh("list", 4, 16), "P5's segment, window 10", (struct segment){45, 0, 9, 1048576, 10}, 7, NULL, 0);
+    struct segment too_many = {45, 0, 9, 1048576, 10};
+    check_scan_into(columns(16, 16), "P5's segment, window 10", too_many, 7, NULL, NULL, 0);
     for (size_t i = 0; i < REFUSED_SEGMENT_COUNT; i++) {
-        struct lent list = fresh("list", 4, 4);
-        check_scan_into(list, REFUSED_SEGMENTS[i].example, REFUSED_SEGMENTS[i].segment, REFUSED_SEGMENTS[i].refusal, NULL, 0);
+        check_refused_scan(REFUSED_SEGMENTS[i].example, REFUSED_SEGMENTS[i].segment, REFUSED_SEGMENTS[i].refusal);
     }
-    check_scan_into(nowhere(), "P9's segment, window 2, null", (struct segment){45, 14, 44, 16, 2}, 0, NULL, 0);
-    check_scan_into(nowhere(), "P9, window 0, null", (struct segment){45, 14, 44, 16, 0}, 5, NULL, 0);
-    check_scan_into(nowhere(), "P9, window 3, null", (struct segment){45, 14, 44, 16, 3}, 7, NULL, 0);
-    check_scan_into(nowhere(), "count 0, null", (struct segment){45, 14, 44, 0, 3}, 4, NULL, 0);
+    check_scans_with_null();
 }
 
 /* ---- the search of a domain ---- */
@@ -503,29 +562,34 @@ struct answer {
     uint8_t marks[8];
     uint64_t searched[2]; /* 1 for cleared or 0 for possible, how many are hard */
     uint32_t hard[16];
+    uint64_t values[16];
 };
 
-static void check_domain_into(struct lent list, const char *example, struct domain d, uint32_t refusal,
+static void check_domain_into(struct columns lent, const char *example, struct domain d, uint32_t refusal,
                               const struct answer *answer) {
-    struct lent has[3] = {list, fresh("marks", 1, 8), fresh("searched", 8, 2)};
-    struct lent wanted[3] = {has[0], has[1], has[2]};
+    struct lent has[4] = {lent.list, lent.values, fresh("marks", 1, 8), fresh("searched", 8, 2)};
+    struct lent wanted[4] = {has[0], has[1], has[2], has[3]};
     if (refusal == 0) {
         set(&wanted[0], answer->hard, answer->searched[1]);
-        set(&wanted[1], answer->marks, 8);
-        set(&wanted[2], answer->searched, 2);
+        set(&wanted[1], answer->values, answer->searched[1]);
+        set(&wanted[2], answer->marks, 8);
+        set(&wanted[3], answer->searched, 2);
     }
-    uint32_t number = geyserdish_search_domain(d.modulus, d.value, d.slope, d.curve, d.count, d.window, lend(&has[0]),
-                                               list.places, lend(&has[1]), lend(&has[2]));
-    count_check("domain", with_places(example, list.places).line, number, refusal, has, wanted, 3);
+    uint32_t number =
+        geyserdish_search_domain(d.modulus, d.value, d.slope, d.curve, d.count, d.window, lend(&has[0]), has[0].places,
+                                 lend(&has[1]), has[1].places, lend(&has[2]), lend(&has[3]));
+    count_check("domain", with_places(example, &lent).line, number, refusal, has, wanted, 4);
 }
 
-/* With as many places as there are hard arguments, with more, and with one too few. */
+/* In each column with as many places as there are hard arguments, with more, and with one too few. */
 static void check_domain(const char *example, struct domain d, const struct answer *answer) {
     uint64_t listed = answer->searched[1];
-    check_domain_into(fresh("list", 4, listed), example, d, 0, answer);
-    check_domain_into(fresh("list", 4, listed + 3), example, d, 0, answer);
-    if (listed > 0) {
-        check_domain_into(fresh("list", 4, listed - 1), example, d, 7, NULL);
+    for (size_t i = 0; i < sizeof BESIDE / sizeof BESIDE[0]; i++) {
+        int too_few = BESIDE[i].list < 0 || BESIDE[i].values < 0;
+        if (listed > 0 || !too_few) {
+            struct columns lent = columns(listed + BESIDE[i].list, listed + BESIDE[i].values);
+            check_domain_into(lent, example, d, too_few ? 7 : 0, answer);
+        }
     }
 }
 
@@ -536,7 +600,10 @@ static void check_domain(const char *example, struct domain d, const struct answ
  * segment has step 0, window 1 + 28, and start 1 + 28 for curve 1 but 1 for curve -1. With curve 1048576, which is 31 modulo 45, or with
  * -1048576 its window is M; with value 14 and slope 0 the values are 14, 14, 0, 17, 20, 9, 29, 35 or 14, 14, 28, 11, 8, 19, 44, 38.
  * The two curves with count 12 have the values 0, 40, 36, 33, 31, 30, 30, 31, 33, 36, 40, 0 and 0, 4, 7, 9, 10, 10, 9, 7, 4, 0, 40, 34:
- * only the parts with a 0 come near a multiple of 45.
+ * only the parts with a 0 come near a multiple of 45. J's values are the residues of P2's segment, which are written above. The values of
+ * 2.6 are 3, 5, 6, 6, 5, 3, 0, 41 with curve -1, 42, 40, 39, 39, 40, 42, 0, 4 with curve 1, and 2^62 - 1, 0, 1 with modulus 2^62. The
+ * covering segments of the two curves have the window 9 + 28 and at argument 0 the residues 7 and 29, so that they are possible. In all
+ * three each argument is a part of its own, and possible where it is hard.
  */
 static void check_accepted_domains(void) {
     static const struct {
@@ -544,42 +611,51 @@ static void check_accepted_domains(void) {
         struct domain domain;
         struct answer answer;
     } accepted[] = {
-        {"J", {45, 44, 31, 0, 16, 3}, {{2, 2, 1, 1, 1, 1, 1, 1}, {0, 2}, {0, 3}}},
-        {"2.1, window 2", {10, 3, 3, 0, 8, 2}, {{1, 1, 2, 1, 1, 1, 2, 1}, {0, 2}, {2, 6}}},
-        {"2.1, window 5 of 11", {11, 5, 0, 0, 8, 5}, {{0, 0, 0, 0, 0, 0, 0, 0}, {1, 0}, {0}}},
+        {"J", {45, 44, 31, 0, 16, 3}, {{2, 2, 1, 1, 1, 1, 1, 1}, {0, 2}, {0, 3}, {44, 2}}},
+        {"2.1, window 2", {10, 3, 3, 0, 8, 2}, {{1, 1, 2, 1, 1, 1, 2, 1}, {0, 2}, {2, 6}, {9, 1}}},
+        {"2.1, window 5 of 11", {11, 5, 0, 0, 8, 5}, {{0, 0, 0, 0, 0, 0, 0, 0}, {1, 0}, {0}, {0}}},
         {"2.1, window 6 of 11",
          {11, 5, 0, 0, 8, 6},
-         {{2, 2, 2, 2, 2, 2, 2, 2}, {0, 8}, {0, 1, 2, 3, 4, 5, 6, 7}}},
-        {"P11, curve 1", {45, 0, 0, 1, 8, 1}, {{2, 2, 1, 1, 1, 1, 1, 1}, {0, 2}, {0, 1}}},
-        {"P11, curve -1", {45, 0, 0, -1, 8, 1}, {{2, 2, 1, 1, 1, 1, 1, 1}, {0, 2}, {0, 1}}},
-        {"value 1, curve 1", {45, 1, 0, 1, 8, 1}, {{0, 0, 0, 0, 0, 0, 0, 0}, {1, 0}, {0}}},
-        {"value 1, curve -1", {45, 1, 0, -1, 8, 1}, {{1, 1, 2, 1, 1, 1, 1, 1}, {0, 1}, {2}}},
-        {"J with window 1", {45, 44, 31, 0, 16, 1}, {{0, 0, 0, 0, 0, 0, 0, 0}, {1, 0}, {0}}},
+         {{2, 2, 2, 2, 2, 2, 2, 2}, {0, 8}, {0, 1, 2, 3, 4, 5, 6, 7}, {5, 5, 5, 5, 5, 5, 5, 5}}},
+        {"P11, curve 1", {45, 0, 0, 1, 8, 1}, {{2, 2, 1, 1, 1, 1, 1, 1}, {0, 2}, {0, 1}, {0, 0}}},
+        {"P11, curve -1", {45, 0, 0, -1, 8, 1}, {{2, 2, 1, 1, 1, 1, 1, 1}, {0, 2}, {0, 1}, {0, 0}}},
+        {"value 1, curve 1", {45, 1, 0, 1, 8, 1}, {{0, 0, 0, 0, 0, 0, 0, 0}, {1, 0}, {0}, {0}}},
+        {"value 1, curve -1", {45, 1, 0, -1, 8, 1}, {{1, 1, 2, 1, 1, 1, 1, 1}, {0, 1}, {2}, {0}}},
+        {"J with window 1", {45, 44, 31, 0, 16, 1}, {{0, 0, 0, 0, 0, 0, 0, 0}, {1, 0}, {0}, {0}}},
         {"J with window M",
          {45, 44, 31, 0, 16, 45},
-         {{2, 2, 2, 2, 2, 2, 2, 2}, {0, 16}, {0, 1, 2, 3, 4, 5, 6, 7, 8, 9, 10, 11, 12, 13, 14, 15}}},
-        {"modulus 2", {2, 0, 0, 0, 8, 1}, {{2, 2, 2, 2, 2, 2, 2, 2}, {0, 8}, {0, 1, 2, 3, 4, 5, 6, 7}}},
+         {{2, 2, 2, 2, 2, 2, 2, 2}, {0, 16}, {0, 1, 2, 3, 4, 5, 6, 7, 8, 9, 10, 11, 12, 13, 14, 15},
+          {44, 30, 16, 2, 33, 19, 5, 36, 22, 8, 39, 25, 11, 42, 28, 14}}},
+        {"modulus 2", {2, 0, 0, 0, 8, 1}, {{2, 2, 2, 2, 2, 2, 2, 2}, {0, 8}, {0, 1, 2, 3, 4, 5, 6, 7}, {0, 0, 0, 0, 0, 0, 0, 0}}},
         {"modulus 2^62, window 2^61",
          {LARGEST, LARGEST / 2, 0, 0, 8, LARGEST / 2},
-         {{0, 0, 0, 0, 0, 0, 0, 0}, {1, 0}, {0}}},
+         {{0, 0, 0, 0, 0, 0, 0, 0}, {1, 0}, {0}, {0}}},
         {"modulus 2^62, window 2^61 + 1",
          {LARGEST, LARGEST / 2, 0, 0, 8, LARGEST / 2 + 1},
-         {{2, 2, 2, 2, 2, 2, 2, 2}, {0, 8}, {0, 1, 2, 3, 4, 5, 6, 7}}},
+         {{2, 2, 2, 2, 2, 2, 2, 2}, {0, 8}, {0, 1, 2, 3, 4, 5, 6, 7},
+          {LARGEST / 2, LARGEST / 2, LARGEST / 2, LARGEST / 2, LARGEST / 2, LARGEST / 2, LARGEST / 2, LARGEST / 2}}},
         {"modulus 2^62, window 2^62",
          {LARGEST, LARGEST - 1, 0, 0, 8, LARGEST},
-         {{2, 2, 2, 2, 2, 2, 2, 2}, {0, 8}, {0, 1, 2, 3, 4, 5, 6, 7}}},
-        {"curve 1048576", {45, 14, 0, 1048576, 8, 1}, {{1, 1, 2, 1, 1, 1, 1, 1}, {0, 1}, {2}}},
-        {"curve -1048576", {45, 14, 0, -1048576, 8, 1}, {{1, 1, 1, 1, 1, 1, 1, 1}, {0, 0}, {0}}},
-        {"count 1048576", {45, 9, 0, 0, 1048576, 9}, {{0, 0, 0, 0, 0, 0, 0, 0}, {1, 0}, {0}}},
-        {"count 1048575", {45, 9, 0, 0, 1048575, 9}, {{0, 0, 0, 0, 0, 0, 0, 0}, {1, 0}, {0}}},
-        {"2.2, J with count 12", {45, 44, 31, 0, 12, 3}, {{2, 2, 1, 1, 1, 1, 1, 1}, {0, 2}, {0, 3}}},
-        {"2.2, J with count 3", {45, 44, 31, 0, 3, 3}, {{2, 1, 1, 3, 3, 3, 3, 3}, {0, 1}, {0}}},
-        {"2.2, J with count 1", {45, 44, 31, 0, 1, 3}, {{2, 3, 3, 3, 3, 3, 3, 3}, {0, 1}, {0}}},
-        {"2.2, count 12, curve 1", {45, 0, 40, 1, 12, 2}, {{2, 1, 1, 1, 1, 1, 1, 2}, {0, 2}, {0, 11}}},
-        {"2.2, count 12, curve -1", {45, 0, 4, -1, 12, 2}, {{2, 1, 1, 1, 1, 2, 1, 1}, {0, 2}, {0, 9}}},
-        {"2.2, count 3 cleared", {11, 5, 0, 0, 3, 5}, {{0, 0, 0, 0, 0, 0, 0, 0}, {1, 0}, {0}}},
+         {{2, 2, 2, 2, 2, 2, 2, 2}, {0, 8}, {0, 1, 2, 3, 4, 5, 6, 7},
+          {LARGEST - 1, LARGEST - 1, LARGEST - 1, LARGEST - 1, LARGEST - 1, LARGEST - 1, LARGEST - 1, LARGEST - 1}}},
+        {"curve 1048576", {45, 14, 0, 1048576, 8, 1}, {{1, 1, 2, 1, 1, 1, 1, 1}, {0, 1}, {2}, {0}}},
+        {"curve -1048576", {45, 14, 0, -1048576, 8, 1}, {{1, 1, 1, 1, 1, 1, 1, 1}, {0, 0}, {0}, {0}}},
+        {"count 1048576", {45, 9, 0, 0, 1048576, 9}, {{0, 0, 0, 0, 0, 0, 0, 0}, {1, 0}, {0}, {0}}},
+        {"count 1048575", {45, 9, 0, 0, 1048575, 9}, {{0, 0, 0, 0, 0, 0, 0, 0}, {1, 0}, {0}, {0}}},
+        {"2.2, J with count 12", {45, 44, 31, 0, 12, 3}, {{2, 2, 1, 1, 1, 1, 1, 1}, {0, 2}, {0, 3}, {44, 2}}},
+        {"2.2, J with count 3", {45, 44, 31, 0, 3, 3}, {{2, 1, 1, 3, 3, 3, 3, 3}, {0, 1}, {0}, {44}}},
+        {"2.2, J with count 1", {45, 44, 31, 0, 1, 3}, {{2, 3, 3, 3, 3, 3, 3, 3}, {0, 1}, {0}, {44}}},
+        {"2.2, count 12, curve 1", {45, 0, 40, 1, 12, 2}, {{2, 1, 1, 1, 1, 1, 1, 2}, {0, 2}, {0, 11}, {0, 0}}},
+        {"2.2, count 12, curve -1", {45, 0, 4, -1, 12, 2}, {{2, 1, 1, 1, 1, 2, 1, 1}, {0, 2}, {0, 9}, {0, 0}}},
+        {"2.2, count 3 cleared", {11, 5, 0, 0, 3, 5}, {{0, 0, 0, 0, 0, 0, 0, 0}, {1, 0}, {0}, {0}}},
         {"count 15, window M", {45, 44, 31, 0, 15, 45},
-         {{2, 2, 2, 2, 2, 2, 2, 2}, {0, 15}, {0, 1, 2, 3, 4, 5, 6, 7, 8, 9, 10, 11, 12, 13, 14}}},
+         {{2, 2, 2, 2, 2, 2, 2, 2}, {0, 15}, {0, 1, 2, 3, 4, 5, 6, 7, 8, 9, 10, 11, 12, 13, 14},
+          {44, 30, 16, 2, 33, 19, 5, 36, 22, 8, 39, 25, 11, 42, 28}}},
+        {"2.6, curve -1", {45, 3, 2, -1, 8, 5}, {{2, 1, 1, 1, 1, 2, 2, 2}, {0, 4}, {0, 5, 6, 7}, {3, 3, 0, 41}}},
+        {"2.6, curve 1", {45, 42, 43, 1, 8, 5}, {{2, 1, 1, 1, 1, 2, 2, 2}, {0, 4}, {0, 5, 6, 7}, {42, 42, 0, 4}}},
+        {"2.6, modulus 2^62",
+         {LARGEST, LARGEST - 1, 1, 0, 3, 2},
+         {{2, 2, 2, 3, 3, 3, 3, 3}, {0, 3}, {0, 1, 2}, {LARGEST - 1, 0, 1}}},
     };
     for (size_t i = 0; i < sizeof accepted / sizeof accepted[0]; i++) {
         check_domain(accepted[i].example, accepted[i].domain, &accepted[i].answer);
@@ -616,16 +692,23 @@ static void check_refused_domains(void) {
         {"count 1048576, window 10", {45, 9, 0, 0, 1048576, 10}, 7},
     };
     for (size_t i = 0; i < sizeof refused / sizeof refused[0]; i++) {
-        check_domain_into(fresh("list", 4, 4), refused[i].example, refused[i].domain, refused[i].refusal, NULL);
+        for (size_t j = 0; j < sizeof REFUSED_PLACES / sizeof REFUSED_PLACES[0]; j++) {
+            struct columns lent = columns(REFUSED_PLACES[j].list, REFUSED_PLACES[j].values);
+            check_domain_into(lent, refused[i].example, refused[i].domain, refused[i].refusal, NULL);
+        }
     }
 }
 
-static void check_domains_without_list(void) {
-    const struct answer cleared = {{0}, {1, 0}, {0}};
-    check_domain_into(nowhere(), "J with window 1, null", (struct domain){45, 44, 31, 0, 16, 1}, 0, &cleared);
-    check_domain_into(nowhere(), "J with window 0, null", (struct domain){45, 44, 31, 0, 16, 0}, 5, NULL);
-    check_domain_into(nowhere(), "J, null", (struct domain){45, 44, 31, 0, 16, 3}, 7, NULL);
-    check_domain_into(nowhere(), "count 0, null", (struct domain){45, 44, 31, 0, 0, 3}, 4, NULL);
+static void check_domains_with_null(void) {
+    const struct answer cleared = {{0}, {1, 0}, {0}, {0}};
+    struct columns lent[WITH_NULL];
+    set_with_null(lent);
+    for (size_t i = 0; i < WITH_NULL; i++) {
+        check_domain_into(lent[i], "J with window 1", (struct domain){45, 44, 31, 0, 16, 1}, 0, &cleared);
+        check_domain_into(lent[i], "J with window 0", (struct domain){45, 44, 31, 0, 16, 0}, 5, NULL);
+        check_domain_into(lent[i], "J", (struct domain){45, 44, 31, 0, 16, 3}, 7, NULL);
+        check_domain_into(lent[i], "count 0", (struct domain){45, 44, 31, 0, 0, 3}, 4, NULL);
+    }
 }
 
 /* ---- the range of a list ---- */
@@ -672,7 +755,7 @@ static void check_ranges(void) {
         set(&list, examples[i].entries, examples[i].places);
         check_range(list, examples[i].example, examples[i].lo, examples[i].hi, examples[i].start, examples[i].count);
     }
-    check_range(nowhere(), "no entries, null", 0, 10, 0, 0);
+    check_range(nowhere("list"), "no entries, null", 0, 10, 0, 0);
 }
 
 int main(void) {
@@ -685,7 +768,7 @@ int main(void) {
     check_scans();
     check_accepted_domains();
     check_refused_domains();
-    check_domains_without_list();
+    check_domains_with_null();
     check_ranges();
     printf("%d passed, %d failed\n", passed, failed);
     return failed == 0 ? 0 : 1;

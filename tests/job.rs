@@ -25,11 +25,27 @@ const P11: Domain = Domain { modulus: 45, value: 0, slope: 0, curve: 1, count: 8
 
 /// Every odd value once. -4,095 comes at argument 2^20 - 4,096, and from there on all arguments are hard: as many as there are places, of
 /// seven digits each.
-const LONGEST_LIST: Domain = Domain { modulus: 2 * MOST, value: 4097, slope: 2, curve: 0, count: MOST, window: 4096 };
+const ODD_VALUES: Domain = Domain { modulus: 2 * MOST, value: 4097, slope: 2, curve: 0, count: MOST, window: 4096 };
 
-/// The bytes of the longest text and of the longest output.
+/// The values rise by 1 and end with the modulus less 1. The last 4,096 arguments are hard, as many as there are places: of seven digits
+/// each, and their values of nineteen.
+const LONGEST_LIST: Domain =
+    Domain { modulus: LARGEST, value: LARGEST - MOST, slope: 1, curve: 0, count: MOST, window: 4097 };
+
+/// The value of 1,010,000 + k is the modulus less k(k+1) + 1, and it is hard for k from -2,048 to 2,047: as many arguments as above, of as
+/// many digits, and their values too.
+const LONGEST_CURVED_LIST: Domain = Domain {
+    modulus: LARGEST,
+    value: LARGEST - 1 - 1_010_000 * 1_009_999,
+    slope: 2 * 1_009_999,
+    curve: -2,
+    count: MOST,
+    window: 2 + 2047 * 2048,
+};
+
+/// The bytes of the longest text and of the longest output: of three lines of 15, 15 and 12 bytes, and 4,096 lines of 43.
 const LONGEST_TEXT: usize = 165;
-const LONGEST_OUTPUT: usize = 69_674;
+const LONGEST_OUTPUT: usize = 176_170;
 
 /// The number of the signal that ends a program whose output nobody reads.
 const SIGPIPE: i32 = 13;
@@ -173,17 +189,27 @@ fn all(program: &str, cases: &[Case]) -> Result<Tally, String> {
     Ok(Tally::of(cases))
 }
 
-/// Document 01's examples that concern domains, as 02 leaves them, some of 2.1 to 2.3 and others: printed by hand, and by the reference.
+/// Document 01's examples that concern domains, as 02 leaves them, some of 2.1 to 2.3 and of 2.6 and others: printed by hand, and by the
+/// reference.
 fn settled_examples() -> Vec<Case> {
     let j = "modulus=45\nvalue=44\nslope=31\ncurve=0\ncount=16\nwindow=3\n";
-    let p11 = "first=possible\nparts=22111111\nlisted=2\nargument=0\nargument=1\n";
+    let j_printed = "first=possible\nparts=22111111\nlisted=2\nargument=0 value=44\nargument=3 value=2\n";
+    let p11 = "first=possible\nparts=22111111\nlisted=2\nargument=0 value=0\nargument=1 value=0\n";
     let cleared = "first=cleared\nparts=00000000\nlisted=0\n";
-    let scattered = "first=possible\nparts=22112212\nlisted=3\nargument=3\nargument=14\nargument=23\n";
-    let either_side = "first=possible\nparts=11211121\nlisted=2\nargument=2\nargument=6\n";
-    let all_eight = (0..8).map(|x| format!("argument={x}\n")).collect::<String>();
+    let scattered =
+        "first=possible\nparts=22112212\nlisted=3\nargument=3 value=1\nargument=14 value=1\nargument=23 value=1\n";
+    let either_side = "first=possible\nparts=11211121\nlisted=2\nargument=2 value=9\nargument=6 value=1\n";
+    let all_eight = (0..8).map(|x| format!("argument={x} value=5\n")).collect::<String>();
     let all_eight = format!("first=possible\nparts=22222222\nlisted=8\n{all_eight}");
+    // The values are 3, 5, 6, 6, 5, 3, 0, -4, and then those with the other sign.
+    let falling = "first=possible\nparts=21111222\nlisted=4\n\
+        argument=0 value=3\nargument=5 value=3\nargument=6 value=0\nargument=7 value=41\n";
+    let rising = "first=possible\nparts=21111222\nlisted=4\n\
+        argument=0 value=42\nargument=5 value=42\nargument=6 value=0\nargument=7 value=4\n";
+    let about_the_largest = "first=possible\nparts=22233333\nlisted=3\n\
+        argument=0 value=4611686018427387903\nargument=1 value=0\nargument=2 value=1\n";
     let examples = [
-        (j.into(), "first=possible\nparts=22111111\nlisted=2\nargument=0\nargument=3\n"),
+        (j.into(), j_printed),
         (P11.text(), p11),
         (Domain { curve: -1, ..P11 }.text(), p11),
         (Domain { value: 1, ..P11 }.text(), cleared),
@@ -193,15 +219,18 @@ fn settled_examples() -> Vec<Case> {
         (Domain { modulus: 10, value: 3, slope: 3, curve: 0, count: 8, window: 2 }.text(), either_side),
         (Domain { modulus: 11, value: 5, slope: 0, curve: 0, count: 8, window: 5 }.text(), cleared),
         (Domain { modulus: 11, value: 5, slope: 0, curve: 0, count: 8, window: 6 }.text(), &all_eight),
-        (Domain { count: 12, ..J }.text(), "first=possible\nparts=22111111\nlisted=2\nargument=0\nargument=3\n"),
-        (Domain { count: 3, ..J }.text(), "first=possible\nparts=21133333\nlisted=1\nargument=0\n"),
-        (Domain { count: 1, ..J }.text(), "first=possible\nparts=23333333\nlisted=1\nargument=0\n"),
+        (Domain { count: 12, ..J }.text(), j_printed),
+        (Domain { count: 3, ..J }.text(), "first=possible\nparts=21133333\nlisted=1\nargument=0 value=44\n"),
+        (Domain { count: 1, ..J }.text(), "first=possible\nparts=23333333\nlisted=1\nargument=0 value=44\n"),
         (Domain { modulus: 11, value: 5, slope: 0, curve: 0, count: 3, window: 5 }.text(), cleared),
         (Domain { window: 1, ..J }.text(), cleared),
         (Domain { window: 0, ..J }.text(), "refused=5\n"),
         (Domain { window: 0, count: 0, ..J }.text(), "refused=4\n"),
         (Domain { window: 0, curve: 1_048_577, ..J }.text(), "refused=5\n"),
         (Domain { window: 1, curve: 1_048_577, ..J }.text(), "refused=6\n"),
+        (Domain { value: 3, slope: 2, curve: -1, count: 8, window: 5, ..J }.text(), falling),
+        (Domain { value: 42, slope: 43, curve: 1, count: 8, window: 5, ..J }.text(), rising),
+        (Domain { modulus: LARGEST, value: LARGEST - 1, slope: 1, count: 3, window: 2, ..J }.text(), about_the_largest),
     ];
     let both = |(text, output): (String, &str)| {
         let domain = reading(text.as_bytes()).unwrap();
@@ -338,15 +367,27 @@ fn with_hard(number: usize, domain: Domain) -> Option<Domain> {
     (domain.hard().len() == number).then_some(domain)
 }
 
+/// The case, which has to list so many arguments.
+fn listing(number: usize, case: Case) -> Case {
+    assert!(case.output.contains(&format!("\nlisted={number}\n")), "{}", quoted(&case.text));
+    case
+}
+
 /// Lists of as many arguments as there are places, of one fewer and one more.
 fn full_lists() -> Vec<Case> {
-    let earlier = 2 * MOST - 4095 - 2 * 1_000_000;
-    let mut cases: Vec<Case> = [4097, earlier].map(|value| job(Domain { value, ..LONGEST_LIST })).into();
+    let longest = [LONGEST_LIST, LONGEST_CURVED_LIST];
+    let mut cases: Vec<Case> = longest.map(|domain| listing(PLACES, job(domain))).into();
     assert!(cases.iter().all(|case| case.output.len() == LONGEST_OUTPUT));
+    cases.push(listing(PLACES - 1, job(Domain { window: LONGEST_LIST.window - 1, ..LONGEST_LIST })));
+    cases.push(refused(7, Domain { window: LONGEST_LIST.window + 1, ..LONGEST_LIST }));
+    // One argument fewer at either end, and one more.
+    cases.push(listing(PLACES - 2, job(Domain { window: 1 + 2047 * 2048, ..LONGEST_CURVED_LIST })));
+    cases.push(refused(7, Domain { window: 2 + 2048 * 2049, ..LONGEST_CURVED_LIST }));
+    let earlier = 2 * MOST - 4095 - 2 * 1_000_000;
+    cases.extend([4097, earlier].map(|value| listing(PLACES, job(Domain { value, ..ODD_VALUES }))));
     // Of even values an odd number is hard.
-    let even = Domain { value: 4096, ..LONGEST_LIST };
-    cases.push(job(even));
-    assert!(cases[2].output.contains("listed=4095\n"));
+    let even = Domain { value: 4096, ..ODD_VALUES };
+    cases.push(listing(PLACES - 1, job(even)));
     cases.extend([4097, 5000, MOST].map(|window| refused(7, Domain { window, ..even })));
     for modulus in [2, 45, LARGEST] {
         let all = Domain { modulus, window: modulus, ..P11 };
@@ -363,13 +404,13 @@ fn full_lists() -> Vec<Case> {
     cases
 }
 
-/// Arguments and counts of the list about each power of ten.
+/// Arguments and counts of the list about each power of ten, and values about each power of ten and of two.
 fn printed_numbers_of_every_length() -> Vec<Case> {
     let mut cases = Vec::new();
     for power in (0..7).map(|power| 10_u64.pow(power)) {
         // Hard at the power and just before it.
         let (value, count) = ((2 * MOST + 1 - 2 * power) % (2 * MOST), power + 1);
-        cases.push(job(Domain { value, count, window: 2, ..LONGEST_LIST }));
+        cases.push(job(Domain { value, count, window: 2, ..ODD_VALUES }));
         // An even window makes as many odd values hard, and an odd one as many even values; a window of 1 no odd value.
         let listed = [power - 1, power, power + 1].into_iter().filter(|&listed| listed <= PLACES as u64);
         cases.extend(listed.map(|listed| {
@@ -379,6 +420,12 @@ fn printed_numbers_of_every_length() -> Vec<Case> {
             job(domain)
         }));
     }
+    // All arguments are hard, and their values are the power and the numbers before and after it.
+    let powers = (0..19).map(|power| 10_u64.pow(power)).chain((0..62).map(|power| 1 << power));
+    cases.extend(powers.map(|power| {
+        let all = Domain { modulus: LARGEST, value: power - 1, slope: 1, curve: 0, count: 3, window: LARGEST };
+        listing(3, job(all))
+    }));
     cases
 }
 

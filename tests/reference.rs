@@ -15,7 +15,7 @@ pub const MOST: u64 = 1 << 20;
 /// The size of the largest curve.
 pub const LARGEST_CURVE: i64 = 1 << 20;
 
-/// The places that the job program has for hard arguments.
+/// The places that the job program has for hard arguments, and as many for their values.
 pub const PLACES: usize = 4096;
 
 /// The refusal of the table whose conditions are given in its order: the lowest number that applies, 0 where none does.
@@ -23,9 +23,10 @@ pub fn refusal(conditions: &[bool]) -> u32 {
     conditions.iter().position(|&applies| applies).map_or(0, |i| i as u32 + 1)
 }
 
-/// The refusal of a call that lists the hard arguments: its other one, or 7 where they are more than the places.
-pub fn listing_refusal(other: u32, hard: usize, places: usize) -> u32 {
-    if other == 0 && hard > places {
+/// The refusal of a call that lists the hard arguments and their values: its other one, or 7 where they are more than the places of the
+/// list, or than those of the values.
+pub fn listing_refusal(other: u32, hard: usize, list_places: usize, value_places: usize) -> u32 {
+    if other == 0 && (hard > list_places || hard > value_places) {
         7
     } else {
         other
@@ -260,6 +261,11 @@ impl Segment {
     pub fn hard(&self) -> Vec<u32> {
         (0..self.count).filter(|&x| self.residue(x) < self.window).map(|x| x as u32).collect()
     }
+
+    /// The values beside a list: the residue of each of its arguments.
+    pub fn values(&self, list: &[u32]) -> Vec<u64> {
+        list.iter().map(|&x| self.residue(x as u64)).collect()
+    }
 }
 
 #[derive(Clone, Copy, Debug)]
@@ -315,6 +321,11 @@ impl Domain {
     /// The hard arguments, by going through them all.
     pub fn hard(&self) -> Vec<u32> {
         (0..self.count).filter(|&x| self.is_hard(x)).map(|x| x as u32).collect()
+    }
+
+    /// The values beside a list: V(x) of each of its arguments.
+    pub fn values(&self, list: &[u32]) -> Vec<u64> {
+        list.iter().map(|&x| self.value_at(x as u64)).collect()
     }
 
     /// D = |s|·N(N-1)/2.
@@ -392,14 +403,15 @@ impl Domain {
     /// What the job program prints for that text.
     pub fn printed(&self) -> String {
         let hard = if self.refusal() == 0 { self.hard() } else { vec![] };
-        let refusal = listing_refusal(self.refusal(), hard.len(), PLACES);
+        let refusal = listing_refusal(self.refusal(), hard.len(), PLACES, PLACES);
         if refusal != 0 {
             return format!("refused={refusal}\n");
         }
         let first = if self.cleared() { "cleared" } else { "possible" };
         let marks = self.marks().map(|mark| mark.to_string()).concat();
-        let list: String = hard.iter().map(|argument| format!("argument={argument}\n")).collect();
-        format!("first={first}\nparts={marks}\nlisted={}\n{list}", hard.len())
+        let lines = hard.iter().zip(self.values(&hard));
+        let lines: String = lines.map(|(argument, value)| format!("argument={argument} value={value}\n")).collect();
+        format!("first={first}\nparts={marks}\nlisted={}\n{lines}", hard.len())
     }
 }
 

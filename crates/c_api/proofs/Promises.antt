@@ -21,7 +21,7 @@ use Rattle.segment.specs.Answer.{regular-answer-with, fine-answer-with, regular
 use Rattle.parabola.specs.Parabola.{Parabola}
 use Rattle.domain.specs.Domain.{centred-of}
 use Rattle.domain.specs.declared.Domain.{Domain}
-use Rattle.domain.specs.Answer.{domain-checks, domain-number, answer-with, domain-answer, marks-of, marks-after, list-after, domain-refusal, scan-checks, scan-number, scan-answer-with, scan-answer, scan-list-after, scan-refusal}
+use Rattle.domain.specs.Answer.{domain-checks, domain-number, answer-with, domain-answer, marks-of, marks-after, list-after, values-after, domain-refusal, scan-checks, scan-number, scan-answer-with, scan-answer, scan-list-after, scan-values-after, scan-refusal}
 use Rattle.c_api.specs.Memory.{Delivered, digits-memory, count-memory, number-memory, verdict-number, regular-memory, fine-memory, scan-memory, domain-memory}
 use Rattle.c_api.specs.Promise.{Promised}
 
@@ -86,25 +86,28 @@ module _ (M a b N w n : ℕ) where
   unfolding fine-answer fine-memory fine-answer-with
   fine-unchanged old e = rw (sym (fine-number (segment M a b N w) (segments.refusal (segment M a b N w))) ∙ e)
 
-  scan-unchanged : (list : List ℕ) (old : ℕ) → scan-refusal (scan-answer M a b N w (length list)) ≡ suc n
-      → (scan-memory (scan-answer M a b N w (length list)) old ≡ old) × (scan-list-after M a b N w list ≡ list)
-  unfolding scan-answer scan-memory scan-answer-with scan-list-after
-  scan-unchanged list old e =
-      let f : scan-number (segment M a b N w) (length list) ≡ suc n = sym (scan-number-is (segment M a b N w) _) ∙ e in
-      (rw f, refused-old _ _ list (λ z. omega (arith, z, f)))
+  scan-unchanged : (list values : List ℕ) (old : ℕ) → scan-refusal (scan-answer M a b N w (length list) (length values)) ≡ suc n
+      → (scan-memory (scan-answer M a b N w (length list) (length values)) old ≡ old) × (scan-list-after M a b N w (length values) list ≡ list)
+      × (scan-values-after M a b N w (length list) values ≡ values)
+  unfolding scan-answer scan-memory scan-answer-with scan-list-after scan-values-after
+  scan-unchanged list values old e =
+      let f : scan-number (segment M a b N w) (length list) (length values) ≡ suc n = sym (scan-number-is (segment M a b N w) _) ∙ e in
+      let kept : scan-number (segment M a b N w) (length list) (length values) ≡ 0 → ⊥ = λ z. omega (arith, z, f) in
+      (rw f, refused-old _ _ list kept, refused-old _ _ values kept)
 
-domain-unchanged : (d : Domain) (n : ℕ) (marks list searched : List ℕ) → domain-refusal (domain-answer d (length list)) ≡ suc n
-    → (marks-after d (length list) marks ≡ marks) × (list-after d list ≡ list) × (domain-memory (domain-answer d (length list)) searched ≡ searched)
-unfolding domain-answer domain-memory answer-with marks-after list-after
-domain-unchanged d n marks list searched e =
-    let f : domain-number d (length list) ≡ suc n = sym (domain-number-is (centred-of d) _) ∙ e in
-    let kept : domain-number d (length list) ≡ 0 → ⊥ = λ z. omega (arith, z, f) in
-    (refused-old _ _ marks kept, refused-old _ _ list kept, rw f)
+domain-unchanged : (d : Domain) (n : ℕ) (marks list values searched : List ℕ) → domain-refusal (domain-answer d (length list) (length values)) ≡ suc n
+    → (marks-after d (length list) (length values) marks ≡ marks) × (list-after d (length values) list ≡ list) × (values-after d (length list) values ≡ values)
+    × (domain-memory (domain-answer d (length list) (length values)) searched ≡ searched)
+unfolding domain-answer domain-memory answer-with marks-after list-after values-after
+domain-unchanged d n marks list values searched e =
+    let f : domain-number d (length list) (length values) ≡ suc n = sym (domain-number-is (centred-of d) _) ∙ e in
+    let kept : domain-number d (length list) (length values) ≡ 0 → ⊥ = λ z. omega (arith, z, f) in
+    (refused-old _ _ marks kept, refused-old _ _ list kept, refused-old _ _ values kept, rw f)
 
-domain-marks : (d : Domain) (marks list : List ℕ) → domain-refusal (domain-answer d (length list)) ≡ 0
-    → marks-after d (length list) marks ≡ marks-of d
+domain-marks : (d : Domain) (marks list values : List ℕ) → domain-refusal (domain-answer d (length list) (length values)) ≡ 0
+    → marks-after d (length list) (length values) marks ≡ marks-of d
 unfolding domain-answer marks-after
-domain-marks d marks list e = unrefused-new _ marks (sym (domain-number-is (centred-of d) _) ∙ e)
+domain-marks d marks list values e = unrefused-new _ marks (sym (domain-number-is (centred-of d) _) ∙ e)
 
 pub promised : Promised
 unfolding verdict-number digits-memory count-memory number-memory residue-answer divide-answer argument-refusal target-refusal regular-memory fine-memory scan-memory domain-memory regular-answer fine-answer scan-answer domain-answer segments.refusal scan-number domain-number
@@ -137,14 +140,15 @@ promised =
       fine-refused = λ M a b N w n. through (fine-number (segment M a b N w) _) (refuses (segments.checks (segment M a b N w)) n);
       fine-unchanged = fine-unchanged;
       fine-numbers = λ f old. refl;
-      scan-accepted = λ M a b N w list.
-          through (scan-number-is (segment M a b N w) _) (accepts (scan-checks (segment M a b N w) (length list)) (omega arith));
-      scan-refused = λ M a b N w n list. through (scan-number-is (segment M a b N w) _) (refuses (scan-checks (segment M a b N w) (length list)) n);
+      scan-accepted = λ M a b N w list values.
+          through (scan-number-is (segment M a b N w) _) (accepts (scan-checks (segment M a b N w) (length list) (length values)) (omega arith));
+      scan-refused = λ M a b N w n list values.
+          through (scan-number-is (segment M a b N w) _) (refuses (scan-checks (segment M a b N w) (length list) (length values)) n);
       scan-unchanged = scan-unchanged;
       scan-number = λ n old. refl;
       domain-is = λ M c0 c1 s N w. refl;
-      domain-accepted = λ d list. through (domain-number-is (centred-of d) _) (accepts (domain-checks d (length list)) (omega arith));
-      domain-refused = λ d n list. through (domain-number-is (centred-of d) _) (refuses (domain-checks d (length list)) n);
+      domain-accepted = λ d list values. through (domain-number-is (centred-of d) _) (accepts (domain-checks d (length list) (length values)) (omega arith));
+      domain-refused = λ d n list values. through (domain-number-is (centred-of d) _) (refuses (domain-checks d (length list) (length values)) n);
       domain-unchanged = domain-unchanged;
       domain-marks = domain-marks;
       domain-numbers = λ v n searched. refl;

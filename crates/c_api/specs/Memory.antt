@@ -66,7 +66,7 @@ scan-memory (scan-variants.Listed n) old = n
 abbrev pub domain-of : (M c0 c1 : ℕ) → (s : ℤ) → (N w : ℕ) → Domain
 domain-of M c0 c1 s N w = record { modulus = M; value = c0; slope = c1; curve = s; count = N; window = w }
 
--- the two numbers that a domain search leaves beside its marks and its list: phase 1's verdict and how many arguments are listed, or what was there
+-- the two numbers that a domain search leaves beside its marks, its list and its values: phase 1's verdict and how many arguments are listed, or what was there
 unfoldable pub domain-memory : DomainAnswer → (old : List ℕ) → List ℕ
 domain-memory (domain-variants.Refused n) old = old
 domain-memory (domain-variants.Searched first listed) old = verdict-number first ∷ listed ∷ []

@@ -19,14 +19,14 @@ use Rattle.segment.specs.declared.Regular.{Regular}
 use Rattle.segment.specs.declared.Fine.{Fine}
 use Rattle.segment.specs.declared.RegularAnswer.the-variants as regular-variants
 use Rattle.segment.specs.declared.FineAnswer.the-variants as fine-variants
-use Rattle.domain.specs.Answer.{domain-answer, marks-of, marks-after, list-after, domain-refusal, scan-answer, scan-list-after, scan-refusal}
+use Rattle.domain.specs.Answer.{domain-answer, marks-of, marks-after, list-after, values-after, domain-refusal, scan-answer, scan-list-after, scan-values-after, scan-refusal}
 use Rattle.domain.specs.Promise as domain-promise
 use Rattle.domain.specs.declared.ScanAnswer.the-variants as scan-variants
 use Rattle.domain.specs.declared.Domain.{Domain}
 use Rattle.domain.specs.declared.DomainAnswer.the-variants as domain-variants
 use Rattle.c_api.specs.Memory.{memory, Delivered, digits-memory, count-memory, number-memory, verdict-number, regular-memory, fine-memory, scan-memory, domain-of, domain-memory}
 
--- residues, divisions, searches, scans and domains return 0 exactly where all holds that is asked, of a scan or a domain also that there are places enough; another number exactly
+-- residues, divisions, searches, scans and domains return 0 exactly where all holds that is asked, of a scan or a domain also that list and values have places enough; another number exactly
 -- where that number refuses, and then the memory is as it was. The expansion and digits return their answer's number
 pub record Promised : Type 0 where
   pub expand-numbers : (M a n m m′ : ℕ) (us qs ks us′ qs′ ks′ : List ℕ) → answer M a .refusal ≡ 0
@@ -62,22 +62,24 @@ pub record Promised : Type 0 where
   pub fine-numbers : (f : Fine) (old : List ℕ)
       → fine-memory (fine-variants.Shown f) old
       ≡ f .count ∷ f .index ∷ f .part ∷ f .distance ∷ f .argument ∷ verdict-number (f .verdict) ∷ []
-  pub scan-accepted : (M a b N w : ℕ) (list : List ℕ) → (scan-refusal (scan-answer M a b N w (length list)) ≡ 0)
-      ↔ All-hold (domain-promise.Scan-asked (segment M a b N w) (length list))
-  pub scan-refused : (M a b N w n : ℕ) (list : List ℕ) → (scan-refusal (scan-answer M a b N w (length list)) ≡ suc n)
-      ↔ domain-promise.Scan-refused-for (segment M a b N w) (length list) (suc n)
-  pub scan-unchanged : (M a b N w n : ℕ) (list : List ℕ) (old : ℕ) → scan-refusal (scan-answer M a b N w (length list)) ≡ suc n
-      → (scan-memory (scan-answer M a b N w (length list)) old ≡ old) × (scan-list-after M a b N w list ≡ list)
+  pub scan-accepted : (M a b N w : ℕ) (list values : List ℕ) → (scan-refusal (scan-answer M a b N w (length list) (length values)) ≡ 0)
+      ↔ All-hold (domain-promise.Scan-asked (segment M a b N w) (length list) (length values))
+  pub scan-refused : (M a b N w n : ℕ) (list values : List ℕ) → (scan-refusal (scan-answer M a b N w (length list) (length values)) ≡ suc n)
+      ↔ domain-promise.Scan-refused-for (segment M a b N w) (length list) (length values) (suc n)
+  pub scan-unchanged : (M a b N w n : ℕ) (list values : List ℕ) (old : ℕ) → scan-refusal (scan-answer M a b N w (length list) (length values)) ≡ suc n
+      → (scan-memory (scan-answer M a b N w (length list) (length values)) old ≡ old) × (scan-list-after M a b N w (length values) list ≡ list)
+      × (scan-values-after M a b N w (length list) values ≡ values)
   pub scan-number : (n old : ℕ) → scan-memory (scan-variants.Listed n) old ≡ n
   pub domain-is : (M c0 c1 : ℕ) (s : ℤ) (N w : ℕ)
       → domain-of M c0 c1 s N w ≡ record { modulus = M; value = c0; slope = c1; curve = s; count = N; window = w }
-  pub domain-accepted : (d : Domain) (list : List ℕ) → (domain-refusal (domain-answer d (length list)) ≡ 0)
-      ↔ All-hold (domain-promise.Asked d (length list))
-  pub domain-refused : (d : Domain) (n : ℕ) (list : List ℕ) → (domain-refusal (domain-answer d (length list)) ≡ suc n)
-      ↔ domain-promise.Refused-for d (length list) (suc n)
-  pub domain-unchanged : (d : Domain) (n : ℕ) (marks list searched : List ℕ) → domain-refusal (domain-answer d (length list)) ≡ suc n
-      → (marks-after d (length list) marks ≡ marks) × (list-after d list ≡ list) × (domain-memory (domain-answer d (length list)) searched ≡ searched)
-  pub domain-marks : (d : Domain) (marks list : List ℕ) → domain-refusal (domain-answer d (length list)) ≡ 0
-      → marks-after d (length list) marks ≡ marks-of d
+  pub domain-accepted : (d : Domain) (list values : List ℕ) → (domain-refusal (domain-answer d (length list) (length values)) ≡ 0)
+      ↔ All-hold (domain-promise.Asked d (length list) (length values))
+  pub domain-refused : (d : Domain) (n : ℕ) (list values : List ℕ) → (domain-refusal (domain-answer d (length list) (length values)) ≡ suc n)
+      ↔ domain-promise.Refused-for d (length list) (length values) (suc n)
+  pub domain-unchanged : (d : Domain) (n : ℕ) (marks list values searched : List ℕ) → domain-refusal (domain-answer d (length list) (length values)) ≡ suc n
+      → (marks-after d (length list) (length values) marks ≡ marks) × (list-after d (length values) list ≡ list) × (values-after d (length list) values ≡ values)
+      × (domain-memory (domain-answer d (length list) (length values)) searched ≡ searched)
+  pub domain-marks : (d : Domain) (marks list values : List ℕ) → domain-refusal (domain-answer d (length list) (length values)) ≡ 0
+      → marks-after d (length list) (length values) marks ≡ marks-of d
   pub domain-numbers : (first : Verdict) (listed : ℕ) (searched : List ℕ)
       → domain-memory (domain-variants.Searched first listed) searched ≡ verdict-number first ∷ listed ∷ []

@@ -1,12 +1,12 @@
 // The calls as C functions: numbers in, the answer into the caller's memory. Each contract is by the definition of the call's answer, and by what that leaves in memory.
 // A pointer that is passed points to as many numbers as its array type says, or to one, and no two of them overlap: that is C's side to keep. A list is
-// two arguments in C, the pointer and after it a usize, the number of its places; it points to so many.
+// two arguments in C, the pointer and after it a usize, the number of its places; it points to so many. The values beside it are two more.
 ghost use mathlib.Core.Path.{_≡_};
 ghost use lib.ListN.{length};
 ghost use Rattle.expansion.specs.Answer.{answer};
 ghost use Rattle.ostrowski.specs.Answer.{digits-answer, residue-answer, divide-answer, refusal-of};
 ghost use Rattle.segment.specs.Answer.{regular-answer, fine-answer, regular-refusal, fine-refusal};
-ghost use Rattle.domain.specs.Answer.{scan-answer, scan-list-after, scan-refusal, domain-answer, domain-refusal, marks-after, list-after};
+ghost use Rattle.domain.specs.Answer.{scan-answer, scan-list-after, scan-values-after, scan-refusal, domain-answer, domain-refusal, marks-after, list-after, values-after};
 ghost use Rattle.range.specs.Range.{start-of, count-of};
 ghost use Rattle.c_api.specs.Memory.{memory, Delivered, digits-memory, count-memory, number-memory, verdict-number, regular-memory, fine-memory, scan-memory, domain-of, domain-memory};
 
@@ -159,7 +159,8 @@ pub extern "C" fn geyserdish_fine_search(
     }
 }
 
-// domain::scan_segment: returns 0 or the refusal. Listed: how many hard arguments are in the list. Both are left as they were on a refusal.
+// domain::scan_segment: returns 0 or the refusal. Listed: how many hard arguments are in the list, and as many residues in the values. List, values and listed are
+// left as they were on a refusal.
 #[no_mangle]
 pub extern "C" fn geyserdish_scan_segment(
     modulus: u64,
@@ -168,13 +169,15 @@ pub extern "C" fn geyserdish_scan_segment(
     count: u64,
     window: u64,
     list: &mut [u32],
+    values: &mut [u64],
     listed: &mut u64,
 ) -> u32
-    ensures { λ r. ⌜ r ≡ scan-refusal (scan-answer modulus step start count window (length (now (list .entry)))) ⌝ }
-    ensures { λ r. ⌜ now (list .exit) ≡ scan-list-after modulus step start count window (now (list .entry)) ⌝ }
-    ensures { λ r. ⌜ now (listed .exit) ≡ scan-memory (scan-answer modulus step start count window (length (now (list .entry)))) (now (listed .entry)) ⌝ }
+    ensures { λ r. ⌜ r ≡ scan-refusal (scan-answer modulus step start count window (length (now (list .entry))) (length (now (values .entry)))) ⌝ }
+    ensures { λ r. ⌜ now (list .exit) ≡ scan-list-after modulus step start count window (length (now (values .entry))) (now (list .entry)) ⌝ }
+    ensures { λ r. ⌜ now (values .exit) ≡ scan-values-after modulus step start count window (length (now (list .entry))) (now (values .entry)) ⌝ }
+    ensures { λ r. ⌜ now (listed .exit) ≡ scan-memory (scan-answer modulus step start count window (length (now (list .entry))) (length (now (values .entry)))) (now (listed .entry)) ⌝ }
 {
-    match domain::scan_segment(modulus, step, start, count, window, list) {
+    match domain::scan_segment(modulus, step, start, count, window, list, values) {
         domain::ScanAnswer::Refused(number) => number,
         domain::ScanAnswer::Listed(number) => {
             *listed = number as u64;
@@ -184,7 +187,8 @@ pub extern "C" fn geyserdish_scan_segment(
 }
 
 // domain::search_domain: returns 0 or the refusal. Marks, of the eight parts: 0 not looked at, 1 clear, 2 possible and scanned, 3 without arguments.
-// Searched: 1 for cleared or 0 for possible, and how many hard arguments are in the list. All three are left as they were on a refusal.
+// Searched: 1 for cleared or 0 for possible, and how many hard arguments are in the list, and as many values beside them. List, values, marks and
+// searched are left as they were on a refusal.
 #[no_mangle]
 pub extern "C" fn geyserdish_search_domain(
     modulus: u64,
@@ -194,13 +198,15 @@ pub extern "C" fn geyserdish_search_domain(
     count: u64,
     window: u64,
     list: &mut [u32],
+    values: &mut [u64],
     marks: &mut [u8; 8],
     searched: &mut [u64; 2],
 ) -> u32
-    ensures { λ r. ⌜ r ≡ domain-refusal (domain-answer (domain-of modulus value slope curve count window) (length (now (list .entry)))) ⌝ }
-    ensures { λ r. ⌜ now (list .exit) ≡ list-after (domain-of modulus value slope curve count window) (now (list .entry)) ⌝ }
-    ensures { λ r. ⌜ now (marks .exit) ≡ marks-after (domain-of modulus value slope curve count window) (length (now (list .entry))) (now (marks .entry)) ⌝ }
-    ensures { λ r. ⌜ now (searched .exit) ≡ domain-memory (domain-answer (domain-of modulus value slope curve count window) (length (now (list .entry)))) (now (searched .entry)) ⌝ }
+    ensures { λ r. ⌜ r ≡ domain-refusal (domain-answer (domain-of modulus value slope curve count window) (length (now (list .entry))) (length (now (values .entry)))) ⌝ }
+    ensures { λ r. ⌜ now (list .exit) ≡ list-after (domain-of modulus value slope curve count window) (length (now (values .entry))) (now (list .entry)) ⌝ }
+    ensures { λ r. ⌜ now (values .exit) ≡ values-after (domain-of modulus value slope curve count window) (length (now (list .entry))) (now (values .entry)) ⌝ }
+    ensures { λ r. ⌜ now (marks .exit) ≡ marks-after (domain-of modulus value slope curve count window) (length (now (list .entry))) (length (now (values .entry))) (now (marks .entry)) ⌝ }
+    ensures { λ r. ⌜ now (searched .exit) ≡ domain-memory (domain-answer (domain-of modulus value slope curve count window) (length (now (list .entry))) (length (now (values .entry)))) (now (searched .entry)) ⌝ }
 {
     let domain = domain::Domain {
         modulus: modulus,
@@ -210,7 +216,7 @@ pub extern "C" fn geyserdish_search_domain(
         count: count,
         window: window,
     };
-    match domain::search_domain(domain, marks, list) {
+    match domain::search_domain(domain, marks, list, values) {
         domain::DomainAnswer::Refused(number) => number,
         domain::DomainAnswer::Searched { first, listed } => {
             *searched = [number_of(first), listed as u64];

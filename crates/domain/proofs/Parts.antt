@@ -1,7 +1,7 @@
 -- The eight parts, one after another: what has been found or listed of those before a part, and what is still to come, make up the whole.
 -- Assumes nothing.
 use mathlib.Core.Path.{_≡_, refl, sym, _∙_, ap}
-use mathlib.Core.List.{List, [], map}
+use mathlib.Core.List.{List, [], map, map-map}
 use mathlib.Core.Logic.{by-cases}
 use Prim.Native.Nat.{ℕ, zero, suc, _+_, _-_, _≤_, _<_, min}
 use native.Mathlib.Decide.{decLe, decLt}
@@ -16,7 +16,7 @@ use Rattle.numbers.specs.Lists.{tabulate, joined, overwrite-front}
 use Rattle.numbers.proofs.Lists.{no-entries}
 use Rattle.numbers.proofs.Signed.{read, curve-read}
 use Rattle.numbers.proofs.Selections.{filter-empty, tabulate-next}
-use Rattle.numbers.proofs.Pieces.{joined-none, joined-next}
+use Rattle.numbers.proofs.Pieces.{joined-none, joined-next, map-joined}
 use Rattle.numbers.proofs.Buffers.{Writing, begin, restate, write-one, write-list, done, written-front}
 use Rattle.expansion.specs.Reached.{Search}
 use Rattle.expansion.specs.Reached.Search.{fine}
@@ -25,6 +25,7 @@ use Rattle.segment.specs.declared.Verdict.{Verdict}
 use Rattle.segment.specs.declared.Verdict.the-variants.{Clear, Possible}
 use Rattle.parabola.specs.Parabola.{Parabola, In-range, triangle, value-at, slope-at, is-hard, hard-list, covering, continued, part, part-start, part-count}
 use Rattle.parabola.proofs.Promises.{promised}
+use Rattle.domain.specs.Scan.{lowered, lowered-at, lowered-values}
 use Rattle.domain.specs.Phases.{mark-of, mark-with, part-mark, part-marks, hard-count, hard-counts, part-report, report}
 use Rattle.arc.specs.Arc.{parabola, point-answer, arc-verdict}
 use Rattle.arc.specs.declared.Arc.{Arc}
@@ -126,8 +127,9 @@ module _ (p : Parabola) (i : ℕ) where
       (λ h. absurd (some (e ∙ ap length (promised .parts p range .nothing-listed i (omega arith)))))
 
   -- a part without hard arguments writes nothing
-  pub nothing-written : (place : ℕ) (list : List ℕ) {n : ℕ} → n ≡ length (hard-list (part p i)) → n ≡ 0 → list ≡ sets list place (piece p i)
-  nothing-written place list e z = sym (ap (λ (xs : List ℕ). sets list place xs) (no-entries (piece p i) (omega (arith, piece-length))))
+  pub nothing-written : (f : ℕ → ℕ) (place : ℕ) (old : List ℕ) {n : ℕ} → n ≡ length (hard-list (part p i)) → n ≡ 0
+      → old ≡ sets old place (map f (hard-list (part p i)))
+  nothing-written f place old e z = sym (ap (λ (xs : List ℕ). sets old place (map f xs)) (no-entries (hard-list (part p i)) (omega arith)))
 
   pieces-length : i < 8 → length (pieces-from p i) ≡ length (hard-list (part p i)) + length (pieces-from p (suc i))
   pieces-length h = ap length (joined-next (piece p) 8 i h) ∙ length-append (piece p i) (pieces-from p (suc i)) ∙ omega (arith, piece-length)
@@ -169,35 +171,64 @@ module _ {p : Parabola} {marks counts : List ℕ} {total i : ℕ} (e : Examining
 
 -- ---- listing
 
--- before the part i, with what those before it list written, and the next one to be written at the place
-pub record Listing-parts (p : Parabola) (old list : List ℕ) (place i : ℕ) : Type 0 where
+-- the values beside what the part i lists
+abbrev value-piece : (raise : ℕ) → Parabola → (i : ℕ) → List ℕ
+value-piece raise p i = lowered-values raise (part p i)
+
+-- one part after another they are the values beside what the whole lists
+value-pieces : (raise : ℕ) {p : Parabola} → In-range p → joined (value-piece raise p) 8 0 ≡ lowered-values raise p
+unfolding continued
+value-pieces raise {p} range =
+    let parts = promised .parts p range in
+    let of-part : (i : ℕ) → value-piece raise p i ≡ map (lowered-at raise p) (piece p i)
+    = λ i. ap (λ (f : ℕ → ℕ). map f (hard-list (part p i))) (λ j y. lowered raise (p .unit) (parts .continues i y j))
+    ∙ sym (map-map (lowered-at raise p) (λ (y : ℕ). part-start (p .count) i + y) (hard-list (part p i))) in
+    ap (λ (f : ℕ → List ℕ). joined f 8 0) (λ j i. of-part i j) ∙ sym (map-joined (lowered-at raise p) (piece p) 8 0) ∙ ap (map (lowered-at raise p)) (parts .lists)
+
+-- before the part i, with what those before it list and the values beside it written, and the next ones to be written at the place
+pub record Listing-parts (p : Parabola) (raise : ℕ) (old old-values list values : List ℕ) (place i : ℕ) : Type 0 where
   pub within : i ≤ 8
-  pub writing : Writing (hard-list p) old 0 (pieces-from p i) list place
+  pub arguments-writing : Writing (hard-list p) old 0 (pieces-from p i) list place
+  pub values-writing : Writing (lowered-values raise p) old-values 0 (joined (value-piece raise p) (8 - i) i) values place
 
-pub list-first : {p : Parabola} (old : List ℕ) → In-range p → Listing-parts p old old 0 0
-list-first {p} old d =
-    record { within = omega arith; writing = restate (sym (promised .parts p d .lists)) (begin (hard-list p) old 0) }
+pub list-first : {p : Parabola} (raise : ℕ) (old old-values : List ℕ) → In-range p → Listing-parts p raise old old-values old old-values 0 0
+list-first {p} raise old old-values d =
+    record {
+      within = omega arith;
+      arguments-writing = restate (sym (promised .parts p d .lists)) (begin (hard-list p) old 0);
+      values-writing = restate (sym (value-pieces raise d)) (begin (lowered-values raise p) old-values 0);
+    }
 
-module _ {p : Parabola} {old list : List ℕ} {place i : ℕ} (l : Listing-parts p old list place i) where
+module _ {p : Parabola} {raise : ℕ} {old old-values list values : List ℕ} {place i : ℕ} (l : Listing-parts p raise old old-values list values place i) where
   -- the part ends no later than the whole
   pub list-end : i < 8 → place + length (hard-list (part p i)) ≤ length (hard-list p)
-  list-end h = omega (arith, l .writing .place, pieces-length p i h)
+  list-end h = omega (arith, l .arguments-writing .place, pieces-length p i h)
 
   -- and there is room for it
-  pub list-room : i < 8 → length (hard-list p) ≤ length old → place + length (hard-list (part p i)) ≤ length list
-  list-room h k = omega (arith, list-end h, l .writing .length-kept)
+  pub list-room : i < 8 → length (hard-list p) ≤ length old → length (hard-list p) ≤ length old-values
+      → (place + length (hard-list (part p i)) ≤ length list) × (place + length (hard-list (part p i)) ≤ length values)
+  list-room h k m =
+      (omega (arith, list-end h, l .arguments-writing .length-kept), omega (arith, list-end h, l .values-writing .length-kept))
 
-  pub list-next : i < 8 → {n : ℕ} {new : List ℕ} → n ≡ length (hard-list (part p i)) → new ≡ sets list place (piece p i)
-      → Listing-parts p old new (place + n) (i + 1)
+  pub list-next : i < 8 → {n : ℕ} {new new-values : List ℕ} → n ≡ length (hard-list (part p i))
+      → (new ≡ sets list place (piece p i)) × (new-values ≡ sets values place (value-piece raise p i))
+      → Listing-parts p raise old old-values new new-values (place + n) (i + 1)
   list-next h e f =
       record {
         within = omega arith;
-        writing = rw (add-one i)
-            (write-list (piece p i) (pieces-from p (suc i)) (restate (joined-next (piece p) 8 i h) (l .writing))
-            (omega (arith, e, piece-length p i), f));
+        arguments-writing = rw (add-one i)
+            (write-list (piece p i) (pieces-from p (suc i)) (restate (joined-next (piece p) 8 i h) (l .arguments-writing))
+            (omega (arith, e, piece-length p i), f .0));
+        values-writing = rw (add-one i)
+            (write-list (value-piece raise p i) _ (restate (joined-next (value-piece raise p) 8 i h) (l .values-writing))
+            (omega (arith, e, length-map (hard-list (part p i)) (lowered-at raise (part p i))), f .1));
       }
 
-  pub list-done : 8 ≤ i → length (hard-list p) ≤ length old → list ≡ overwrite-front (hard-list p) old
-  list-done h k =
-      let f : i ≡ 8 = omega (arith, l .within) in
-      done (restate (joined-none (piece p) 8) (rw f at (l .writing))) .1 ∙ written-front (hard-list p) old k
+  pub list-done : 8 ≤ i → length (hard-list p) ≤ length old → length (hard-list p) ≤ length old-values
+      → (list ≡ overwrite-front (hard-list p) old) × (values ≡ overwrite-front (lowered-values raise p) old-values)
+  list-done h k m =
+      let f : i ≡ 8 = omega (arith, l .within) in (
+        done (restate (joined-none (piece p) 8) (rw f at (l .arguments-writing))) .1 ∙ written-front (hard-list p) old k,
+        done (restate (joined-none (value-piece raise p) 8) (rw f at (l .values-writing))) .1
+            ∙ written-front (lowered-values raise p) old-values (omega (arith, length-map (hard-list p) (lowered-at raise p))),
+      )

@@ -1,26 +1,28 @@
--- Scans go from a value of a parabola to the next: what they have counted or listed, and what is still to come, make up all hard arguments.
+-- Scans go from a value of a parabola to the next: what they have counted or listed, and what is still to come, make up all hard arguments and the values beside
+-- them.
 -- Assumes nothing.
-use mathlib.Core.Path.{_≡_, sym, _∙_, ap, ap₂}
+use mathlib.Core.Path.{_≡_, refl, sym, _∙_, ap, ap₂}
+use mathlib.Core.Bool.{true, false}
 use mathlib.Core.List.{List, map}
-use Prim.Native.Nat.{ℕ, suc, _+_, _%_, _≤_, _<_}
-use native.Mathlib.Nat.{sub-zero, add-zero, mod-eq-of-lt, lt-of-not-le}
+use Prim.Native.Nat.{ℕ, suc, _+_, _-_, _%_, _≤_, _<_}
+use native.Mathlib.Nat.{sub-zero, add-zero, mod-eq-of-lt, mod-eq-sub-mod, lt-of-not-le}
 use native.Mathlib.Omega.{arith}
 use native.Mathlib.Numerals.{add-one}
 use lib.Dec.{leb, ltb, leb·suc-suc}
 use lib.ListN.{length, set, length-map}
 use lib.Seq.{sets}
 use mir.Val.{boolByte}
-use borrow.Author.Tests.{le-leb, lt-leb}
+use borrow.Author.Tests.{leb-true, le-leb, lt-leb}
 use Rattle.numbers.specs.Integers.{_modulo_}
 use Rattle.numbers.proofs.Lists.{no-entries}
 use Rattle.numbers.proofs.Signed.{read, curve-read}
-use Rattle.numbers.proofs.Selections.{test-number, one-at-most, filter-from, from-none, from-hit, from-miss, from-length}
+use Rattle.numbers.proofs.Selections.{filter-full, less, test-number, one-at-most, filter-from, from-none, from-hit, from-miss, from-length, from-full}
 use Rattle.numbers.proofs.Buffers.{Writing, begin as begin-writing, restate, write-one, done}
 use Rattle.parabola.specs.Parabola.{Parabola, In-range, value-at, slope-at, second-difference, is-hard, hard-list}
 use Rattle.parabola.specs.Promise.{Values-correct}
 use Rattle.parabola.proofs.Laws.{positive}
 use Rattle.parabola.proofs.Promises.{promised}
-use Rattle.domain.specs.Scan.{Point-below, next-point}
+use Rattle.domain.specs.Scan.{Point-below, next-point, lowered, lowered-at, lowered-values}
 use Rattle.domain.specs.declared.scan.Point.{Point}
 
 -- ---- from a value to the next
@@ -78,6 +80,16 @@ module _ {p : Parabola} {second highest x : ℕ} {t : Point} (a : At p second hi
   unfolding is-hard
   at-test = sym (leb·suc-suc (t .value) highest) ∙ ap₂ ltb (a .value-is) (a .highest-is)
 
+-- a - b modulo M is a difference, or one around by the modulus
+module _ (M a b : ℕ) (below : a < M) (low : b < M) where
+  pub difference-above : b ≤ a → (a + (M - b)) % M ≡ a - b
+  difference-above h =
+      let e : a + (M - b) - M ≡ a - b = omega arith in
+      mod-eq-sub-mod (omega arith) ∙ ap (λ (n : ℕ). n % M) e ∙ mod-eq-of-lt (omega arith)
+
+  pub difference-around : a < b → (a + (M - b)) % M ≡ a + (M - b)
+  difference-around h = mod-eq-of-lt (omega arith)
+
 -- a line keeps its slope
 pub line-next : {second modulus : ℕ} {t : Point} {v : ℕ} → Point-below second modulus t → second ≡ 0 → v ≡ (t .value + t .slope) % modulus
     → record { value = v; slope = t .slope } ≡ next-point second modulus t
@@ -96,6 +108,12 @@ unfolding hard-list
 rest-all p = rw sub-zero
 
 -- ---- counting
+
+-- every argument is hard where no value is too high
+pub count-all : {p : Parabola} {highest : ℕ} → In-range p → suc highest ≡ p .window → highest ≡ p .unit - 1 → p .count ≡ length (hard-list p)
+unfolding hard-list is-hard
+count-all {p} range w h =
+    sym (filter-full (is-hard p) (p .count) 0 (λ x. less (value-at p x) (p .window) .1 (omega (arith, values range .in-range x, w, h))))
 
 -- at x, with so many counted
 pub record Counting (p : Parabola) (second highest : ℕ) (t : Point) (x number : ℕ) : Type 0 where
@@ -123,67 +141,110 @@ module _ {p : Parabola} {second highest x number : ℕ} {t : Point} (c : Countin
 
 -- ---- listing
 
--- the hard arguments of a list, each larger by the same
-abbrev pub shifted : (by : ℕ) → List ℕ → List ℕ
-shifted by xs = map (λ (y : ℕ). by + y) xs
+-- a column is written into a buffer from a place on, f of each hard argument: of those from x on it is still to be written, from the place `at` on
+pub record Column (f : ℕ → ℕ) (p : Parabola) (place : ℕ) (old : List ℕ) (x : ℕ) (now : List ℕ) (at : ℕ) : Type 0 where
+  pub writing : Writing (map f (hard-list p)) old place (map f (rest p x)) now at
 
--- at the argument of x, with all hard arguments before it written, and the next one to be written at the place `at`
-pub record Listing (p : Parabola) (second highest begin place : ℕ) (old list : List ℕ) (t : Point) (at x : ℕ) : Type 0 where
+module _ {f : ℕ → ℕ} {p : Parabola} {place : ℕ} {old : List ℕ} where
+  column-first : Column f p place old 0 old place
+  column-first = record { writing = restate (ap (map f) (sym (rest-all p))) (begin-writing _ old place) }
+
+  module _ {x : ℕ} {now : List ℕ} {at : ℕ} (c : Column f p place old x now at) where
+    -- what is still to be written ends where all of it does
+    column-end : at + length (rest p x) ≡ place + length (hard-list p)
+    column-end = omega (arith, c .writing .place, length-map (rest p x) f, length-map (hard-list p) f)
+
+    column-hit : x < p .count → is-hard p x ≡ true → Column f p place old (suc x) (set now at (f x)) (at + 1)
+    column-hit h e = record { writing = write-one (restate (ap (map f) (from-hit (is-hard p) (p .count) x h e)) (c .writing)) }
+
+    column-miss : x < p .count → is-hard p x ≡ false → Column f p place old (suc x) now at
+    column-miss h e = record { writing = restate (ap (map f) (from-miss (is-hard p) (p .count) x h e)) (c .writing) }
+
+    column-done : length (rest p x) ≤ 0 → now ≡ sets old place (map f (hard-list p))
+    column-done h = done (restate (ap (map f) (no-entries (rest p x) h)) (c .writing)) .1
+
+-- at the argument of x, with all hard arguments before it and their values written, and the next ones to be written at the place `at`
+pub record Listing (p : Parabola) (second highest raise begin place : ℕ) (old old-values list values : List ℕ) (t : Point) (at x : ℕ) : Type 0 where
   pub argument : ℕ
   pub begun : x ≡ begin + argument
   pub point : At p second highest argument t
   pub within : argument ≤ p .count
-  pub writing : Writing (shifted begin (hard-list p)) old place (shifted begin (rest p argument)) list at
+  pub arguments-column : Column (λ (y : ℕ). begin + y) p place old argument list at
+  pub values-column : Column (lowered-at raise p) p place old-values argument values at
 
-module _ {p : Parabola} {second highest begin place : ℕ} {old : List ℕ} where
-  pub list-first : {t : Point} → At p second highest 0 t → Listing p second highest begin place old old t place begin
+module _ {p : Parabola} {second highest raise begin place : ℕ} {old old-values : List ℕ} where
+  pub list-first : {t : Point} → At p second highest 0 t → Listing p second highest raise begin place old old-values old old-values t place begin
   list-first a =
-      record {
-        argument = 0;
-        begun = omega arith;
-        point = a;
-        within = omega arith;
-        writing = restate (ap (shifted begin) (sym (rest-all p))) (begin-writing _ old place);
-      }
+      record { argument = 0; begun = omega arith; point = a; within = omega arith; arguments-column = column-first; values-column = column-first }
 
-  module _ {list : List ℕ} {t : Point} {at x : ℕ} (l : Listing p second highest begin place old list t at x) where
-    -- what is still to be written ends where all hard arguments are
-    end-is : at + length (rest p (l .argument)) ≡ place + length (hard-list p)
-    end-is =
-        omega (
-          arith,
-          l .writing .place,
-          length-map (rest p (l .argument)) (λ (y : ℕ). begin + y),
-          length-map (hard-list p) (λ (y : ℕ). begin + y),
-        )
-
+  module _ {list values : List ℕ} {t : Point} {at x : ℕ} (l : Listing p second highest raise begin place old old-values list values t at x) where
     module _ (end : ℕ) (ends : end ≡ place + length (hard-list p)) (h : at < end) where
       -- as long as something is to be written, there are arguments left
       pub list-more : l .argument < p .count
-      list-more = lt-of-not-le (λ k. omega (arith, end-is, ap length (from-none (is-hard p) (p .count) (l .argument) k)))
+      list-more =
+          lt-of-not-le (λ k. omega (arith, column-end (l .arguments-column), ap length (from-none (is-hard p) (p .count) (l .argument) k)))
 
-      pub list-hit : t .value ≤ highest → Listing p second highest begin place old (set list at x) (next-point second (p .unit) t) (at + 1) (x + 1)
-      list-hit k =
-          let e = from-hit (is-hard p) (p .count) (l .argument) list-more (sym (at-test (l .point)) ∙ le-leb (t .value) highest k) in
+      pub list-hit : t .value ≤ highest → {v : ℕ} → v ≡ (t .value + (p .unit - raise)) % p .unit
+          → Listing p second highest raise begin place old old-values (set list at x) (set values at v) (next-point second (p .unit) t) (at + 1) (x + 1)
+      unfolding lowered
+      list-hit k e =
+          let hard = sym (at-test (l .point)) ∙ le-leb (t .value) highest k in
           record {
             argument = suc (l .argument);
             begun = omega (arith, l .begun);
             point = at-next (l .point);
             within = list-more;
-            writing = rw (l .begun) (write-one (restate (ap (shifted begin) e) (l .writing)));
+            arguments-column = rw (l .begun) (column-hit (l .arguments-column) list-more hard);
+            values-column = rw (e, l .point .value-is) (column-hit (l .values-column) list-more hard);
           }
 
-      pub list-miss : highest < t .value → Listing p second highest begin place old list (next-point second (p .unit) t) at (x + 1)
+      pub list-miss : highest < t .value
+          → Listing p second highest raise begin place old old-values list values (next-point second (p .unit) t) at (x + 1)
       list-miss k =
-          let e = from-miss (is-hard p) (p .count) (l .argument) list-more (sym (at-test (l .point)) ∙ lt-leb (t .value) highest k) in
+          let not-hard = sym (at-test (l .point)) ∙ lt-leb (t .value) highest k in
           record {
             argument = suc (l .argument);
             begun = omega (arith, l .begun);
             point = at-next (l .point);
             within = list-more;
-            writing = restate (ap (shifted begin) e) (l .writing);
+            arguments-column = column-miss (l .arguments-column) list-more not-hard;
+            values-column = column-miss (l .values-column) list-more not-hard;
           }
 
-    pub list-done : (end : ℕ) → end ≡ place + length (hard-list p) → end ≤ at → list ≡ sets old place (shifted begin (hard-list p))
+    pub list-done : (end : ℕ) → end ≡ place + length (hard-list p) → end ≤ at
+        → (list ≡ sets old place (map (λ (y : ℕ). begin + y) (hard-list p))) × (values ≡ sets old-values place (lowered-values raise p))
     list-done end ends h =
-        done (restate (ap (shifted begin) (no-entries (rest p (l .argument)) (omega (arith, end-is)))) (l .writing)) .1
+        let none : length (rest p (l .argument)) ≤ 0 = omega (arith, column-end (l .arguments-column)) in
+        (column-done (l .arguments-column) none, column-done (l .values-column) none)
+
+-- ---- listing all
+
+-- the same with the argument x to be written at the place x, where it and all after it are hard
+pub record Listing-all (p : Parabola) (second highest : ℕ) (old old-values list values : List ℕ) (t : Point) (x : ℕ) : Type 0 where
+  pub listing : Listing p second highest 0 0 0 old old-values list values t x x
+  pub all-left : length (rest p x) ≡ p .count - x
+
+pub all-first : {p : Parabola} {second highest : ℕ} (old old-values : List ℕ) {t : Point} → At p second highest 0 t → length (hard-list p) ≡ p .count
+    → Listing-all p second highest old old-values old old-values t 0
+all-first {p} old old-values a e = record { listing = list-first a; all-left = ap length (rest-all p) ∙ e ∙ sym (sub-zero (p .count)) }
+
+module _ {p : Parabola} {second highest : ℕ} {old old-values list values : List ℕ} {t : Point} {x : ℕ} (l : Listing-all p second highest old old-values list values t x) where
+  argument-is : l .listing .argument ≡ x
+  argument-is = omega (arith, l .listing .begun)
+
+  -- so many are still to be written
+  still : x + (p .count - x) ≡ 0 + length (hard-list p)
+  still = omega (arith, column-end (l .listing .arguments-column), ap (λ (n : ℕ). length (rest p n)) argument-is, l .all-left)
+
+  pub all-next : x < p .count → Listing-all p second highest old old-values (set list x x) (set values x (t .value)) (next-point second (p .unit) t) (x + 1)
+  all-next h =
+      let i = l .listing in
+      let full = from-full (is-hard p) (p .count) x h (l .all-left) in
+      let hard = leb-true (t .value) highest (at-test (i .point) ∙ ap (is-hard p) argument-is ∙ full .0) in
+      let below = at-below (i .point) .value-below in
+      let not-raised = sym (difference-above (p .unit) (t .value) 0 below (omega (arith, below)) (omega arith) ∙ sub-zero (t .value)) in
+      record { listing = list-hit i _ refl (omega (arith, still)) hard not-raised; all-left = rw (add-one x) (full .1) }
+
+  pub all-done : p .count ≤ x
+      → (list ≡ sets old 0 (map (λ (y : ℕ). 0 + y) (hard-list p))) × (values ≡ sets old-values 0 (lowered-values 0 p))
+  all-done h = list-done (l .listing) _ refl (omega (arith, still, argument-is, l .listing .within))

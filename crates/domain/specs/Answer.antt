@@ -1,12 +1,13 @@
 -- What the two calls answer, and what they leave in the caller's buffers. Assumes nothing: these are definitions.
-use mathlib.Core.List.{List, [], _∷_, _++_}
+use mathlib.Core.List.{List, [], _∷_, _++_, map}
+use mathlib.Core.Logic.{Dec·and}
 use Prim.Native.Nat.{ℕ, zero, suc}
 use native.Mathlib.Decide.{decLe}
 use lib.ListN.{length}
 use Rattle.numbers.specs.Checklist.{Check, check, first-failing, unless-refused}
 use Rattle.numbers.specs.Lists.{overwrite-front}
 use Rattle.expansion.specs.Reached.Search.{regular}
-use Rattle.geometry.specs.Segment.{Segment}
+use Rattle.geometry.specs.Segment.{Segment, residue}
 use Rattle.geometry.specs.Segment as geometry
 use Rattle.segment.specs.Accepted as segment
 use Rattle.segment.specs.Search.{verdict}
@@ -14,7 +15,8 @@ use Rattle.segment.specs.declared.Verdict.{Verdict}
 use Rattle.segment.specs.declared.Verdict.the-variants.{Possible}
 use Rattle.parabola.specs.Parabola.{Parabola, hard-list, covering}
 use Rattle.arc.specs.Arc as arc
-use Rattle.domain.specs.Domain.{parabola-of, centred-of, hard-arguments}
+use Rattle.domain.specs.Domain.{parabola-of, centred-of, hard-arguments, hard-values}
+use Rattle.domain.specs.Scan.{lowered-values}
 use Rattle.domain.specs.Phases.{marks}
 use Rattle.domain.specs.declared.Domain.{Domain}
 use Rattle.domain.specs.declared.DomainAnswer.{DomainAnswer}
@@ -22,40 +24,44 @@ use Rattle.domain.specs.declared.DomainAnswer.the-variants as domain-var
 use Rattle.domain.specs.declared.ScanAnswer.{ScanAnswer}
 use Rattle.domain.specs.declared.ScanAnswer.the-variants as scan-variants
 
--- a list of so many places has one for each hard argument, or 7
-abbrev pub room : (xs : List ℕ) → (places : ℕ) → List Check
-room xs places = check 7 (decLe (length xs) places) ∷ []
+-- 7, unless the list and the values each have a place for every hard argument
+abbrev pub room : (xs : List ℕ) → (list-places value-places : ℕ) → List Check
+room xs m n = check 7 (Dec·and (decLe (length xs) m) (decLe (length xs) n)) ∷ []
 
 -- ---- domains
 
--- what is asked of a domain with a list of so many places: what is asked of its parabola, and then room
-abbrev pub domain-checks : Domain → (places : ℕ) → List Check
-domain-checks d places = arc.checks (parabola-of d) ++ room (hard-arguments d) places
+-- what is asked of a domain with a list and values of so many places: what is asked of its parabola, and then room
+abbrev pub domain-checks : Domain → (list-places value-places : ℕ) → List Check
+domain-checks d m n = arc.checks (parabola-of d) ++ room (hard-arguments d) m n
 
 -- the number of the first condition that does not hold, or 0
-unfoldable pub domain-number : Domain → (places : ℕ) → ℕ
-domain-number d places = first-failing (domain-checks d places)
+unfoldable pub domain-number : Domain → (list-places value-places : ℕ) → ℕ
+domain-number d m n = first-failing (domain-checks d m n)
 
 -- the answer where the checklist gives this number: a refusal carries it alone; else phase 1's verdict and how many arguments are listed
 unfoldable pub answer-with : (number : ℕ) → Parabola → DomainAnswer
 answer-with zero p = domain-variants.Searched (verdict regular (covering p)) (length (hard-list p))
 answer-with (suc n) p = domain-variants.Refused (suc n)
 
--- the answer for a domain and a list of so many places
-unfoldable pub domain-answer : Domain → (places : ℕ) → DomainAnswer
-domain-answer d places = answer-with (domain-number d places) (centred-of d)
+-- the answer for a domain with a list and values of so many places
+unfoldable pub domain-answer : Domain → (list-places value-places : ℕ) → DomainAnswer
+domain-answer d m n = answer-with (domain-number d m n) (centred-of d)
 
 -- the eight marks of a domain
 abbrev pub marks-of : Domain → List ℕ
 marks-of d = marks (centred-of d)
 
 -- the caller's marks then
-unfoldable pub marks-after : Domain → (places : ℕ) → (old : List ℕ) → List ℕ
-marks-after d places old = unless-refused (domain-number d places) (marks-of d) old
+unfoldable pub marks-after : Domain → (list-places value-places : ℕ) → (old : List ℕ) → List ℕ
+marks-after d m n old = unless-refused (domain-number d m n) (marks-of d) old
 
--- and the caller's list: the hard arguments from the first place on, and the places after them as they were
-unfoldable pub list-after : Domain → (old : List ℕ) → List ℕ
-list-after d old = unless-refused (domain-number d (length old)) (overwrite-front (hard-arguments d) old) old
+-- the caller's list: the hard arguments from the first place on, and the places after them as they were
+unfoldable pub list-after : Domain → (value-places : ℕ) → (old : List ℕ) → List ℕ
+list-after d n old = unless-refused (domain-number d (length old) n) (overwrite-front (hard-arguments d) old) old
+
+-- and the caller's values: V(x) at the place of each hard argument x, and the places after them as they were
+unfoldable pub values-after : Domain → (list-places : ℕ) → (old : List ℕ) → List ℕ
+values-after d m old = unless-refused (domain-number d m (length old)) (overwrite-front (hard-values d) old) old
 
 -- the number of a domain's refusal; 0 where there is none
 unfoldable pub domain-refusal : DomainAnswer → ℕ
@@ -74,9 +80,9 @@ domain-count (domain-variants.Searched v n) = n
 
 -- ---- phases 2 and 3
 
--- 7 where the list has too few places, else 0
-unfoldable pub too-few : Parabola → (places : ℕ) → ℕ
-too-few p places = first-failing (room (hard-list p) places)
+-- 7 where the list or the values have too few places, else 0
+unfoldable pub too-few : Parabola → (list-places value-places : ℕ) → ℕ
+too-few p m n = first-failing (room (hard-list p) m n)
 
 abbrev pub marks-with : (number : ℕ) → Parabola → (old : List ℕ) → List ℕ
 marks-with n p old = unless-refused n (marks p) old
@@ -84,27 +90,39 @@ marks-with n p old = unless-refused n (marks p) old
 abbrev pub list-with : (number : ℕ) → Parabola → (old : List ℕ) → List ℕ
 list-with n p old = unless-refused n (overwrite-front (hard-list p) old) old
 
+abbrev pub values-with : (number : ℕ) → (raise : ℕ) → Parabola → (old : List ℕ) → List ℕ
+values-with n raise p old = unless-refused n (overwrite-front (lowered-values raise p) old) old
+
 -- ---- scans of segments
 
--- what is asked of a segment with a list of so many places
-abbrev pub scan-checks : Segment → (places : ℕ) → List Check
-scan-checks s places = segment.checks s ++ room (geometry.hard-list s) places
+-- the residue of each hard argument, in their order
+abbrev pub hard-residues : Segment → List ℕ
+hard-residues s = map (residue s) (geometry.hard-list s)
 
-unfoldable pub scan-number : Segment → (places : ℕ) → ℕ
-scan-number s places = first-failing (scan-checks s places)
+-- what is asked of a segment with a list and values of so many places
+abbrev pub scan-checks : Segment → (list-places value-places : ℕ) → List Check
+scan-checks s m n = segment.checks s ++ room (geometry.hard-list s) m n
+
+unfoldable pub scan-number : Segment → (list-places value-places : ℕ) → ℕ
+scan-number s m n = first-failing (scan-checks s m n)
 
 unfoldable pub scan-answer-with : (number : ℕ) → Segment → ScanAnswer
 scan-answer-with zero s = scan-variants.Listed (length (geometry.hard-list s))
 scan-answer-with (suc n) s = scan-variants.Refused (suc n)
 
--- the answer for modulus, step, start, count, window and a list of so many places
-unfoldable pub scan-answer : (M a b N w places : ℕ) → ScanAnswer
-scan-answer M a b N w places = scan-answer-with (scan-number (segment.asked M a b N w) places) (segment.asked M a b N w)
+-- the answer for modulus, step, start, count, window and a list and values of so many places
+unfoldable pub scan-answer : (M a b N w list-places value-places : ℕ) → ScanAnswer
+scan-answer M a b N w m n = scan-answer-with (scan-number (segment.asked M a b N w) m n) (segment.asked M a b N w)
 
 -- what the caller's list is then
-unfoldable pub scan-list-after : (M a b N w : ℕ) → (old : List ℕ) → List ℕ
-scan-list-after M a b N w old =
-    unless-refused (scan-number (segment.asked M a b N w) (length old)) (overwrite-front (geometry.hard-list (segment.asked M a b N w)) old) old
+unfoldable pub scan-list-after : (M a b N w value-places : ℕ) → (old : List ℕ) → List ℕ
+scan-list-after M a b N w n old =
+    unless-refused (scan-number (segment.asked M a b N w) (length old) n) (overwrite-front (geometry.hard-list (segment.asked M a b N w)) old) old
+
+-- and what the caller's values are
+unfoldable pub scan-values-after : (M a b N w list-places : ℕ) → (old : List ℕ) → List ℕ
+scan-values-after M a b N w m old =
+    unless-refused (scan-number (segment.asked M a b N w) m (length old)) (overwrite-front (hard-residues (segment.asked M a b N w)) old) old
 
 -- the number of a scan's refusal; 0 where there is none
 unfoldable pub scan-refusal : ScanAnswer → ℕ

@@ -22,10 +22,10 @@ use Rattle.segment.specs.declared.Verdict.{Verdict}
 use Rattle.segment.specs.declared.Verdict.the-variants.{Clear, Possible}
 use Rattle.parabola.specs.Parabola.{Parabola, value-at, slope-at, second-difference, covering, continued, part-start, part-count, part}
 use Rattle.parabola.specs.Promise.{Values-correct, Covers-both-by, Covering-both-correct, Centred-correct, Eight-parts-correct, Parts-correct}
-use Rattle.domain.specs.Domain.{parabola-of, centred-of, hard-arguments, covering-of, part-covering, Accepted}
+use Rattle.domain.specs.Domain.{parabola-of, centred-of, hard-arguments, hard-values, covering-of, part-covering, Accepted}
 use Rattle.domain.specs.Phases.{mark-of}
 use Rattle.domain.specs.Scan.{next-point}
-use Rattle.domain.specs.Answer.{domain-answer, marks-of, marks-after, list-after, domain-refusal, domain-first, domain-count, scan-answer, scan-list-after, scan-refusal, scan-count}
+use Rattle.domain.specs.Answer.{domain-answer, marks-of, marks-after, list-after, values-after, domain-refusal, domain-first, domain-count, hard-residues, scan-answer, scan-list-after, scan-values-after, scan-refusal, scan-count}
 use Rattle.domain.specs.declared.Domain.{Domain}
 use Rattle.domain.specs.declared.DomainAnswer.{DomainAnswer}
 use Rattle.domain.specs.declared.DomainAnswer.the-variants as domain-variants
@@ -44,13 +44,21 @@ pub record Parabola-correct (d : Domain) : Type 0 where
   pub window : parabola-of d .window ≡ d .window
   pub value : (x : ℕ) → value-at (parabola-of d) x ≡ (pos (d .value) +ℤ pos (d .slope) *ℤ pos x +ℤ d .curve *ℤ pos (x * (x - 1) / 2)) modulo d .modulus
 
--- what hard means in the call's own numbers: below N, with a v below M that differs from c0 + c1·x + s·x(x-1)/2 by k·M for an integer k, and that is less
--- than w from a multiple of M: v < w or M - v < w. All is doubled, so that nothing is halved
+-- what V(x) is in the call's own numbers: the v below M that differs from c0 + c1·x + s·x(x-1)/2 by k·M for an integer k. All is doubled, so that nothing is
+-- halved
+abbrev pub Value-in-numbers : Domain → (x v : ℕ) → Type 0
+Value-in-numbers d x v =
+    (v < d .modulus)
+    × ((k : ℤ) × (pos (2 * v) ≡ pos (2 * (d .value + d .slope * x)) +ℤ d .curve *ℤ pos (x * (x - 1)) +ℤ k *ℤ pos (2 * d .modulus)))
+
+-- values stand beside arguments: there are as many, and each is the value of the argument at its place
+pub record Values-beside (d : Domain) (arguments values : List ℕ) : Type 0 where
+  pub as-many : length values ≡ length arguments
+  pub each : (i : ℕ) → i < length arguments → Value-in-numbers d (getD arguments i 0) (getD values i 0)
+
+-- what hard means: below N, with a value v that is less than w from a multiple of M: v < w or M - v < w
 abbrev pub Hard-in-numbers : Domain → (x : ℕ) → Type 0
-Hard-in-numbers d x =
-    (x < d .count)
-    × ((v : ℕ) × (v < d .modulus) × ((v < d .window) ⊎ (d .modulus - v < d .window))
-    × ((k : ℤ) × (pos (2 * v) ≡ pos (2 * (d .value + d .slope * x)) +ℤ d .curve *ℤ pos (x * (x - 1)) +ℤ k *ℤ pos (2 * d .modulus))))
+Hard-in-numbers d x = (x < d .count) × ((v : ℕ) × Value-in-numbers d x v × ((v < d .window) ⊎ (d .modulus - v < d .window)))
 
 -- by the distance: c0 + c1·x + s·x(x-1)/2 is less than w from some multiple of M, and so from the nearest one. All is doubled here too
 abbrev pub Near-a-multiple : Domain → (x : ℕ) → Type 0
@@ -58,10 +66,13 @@ Near-a-multiple d x =
     (x < d .count)
     × ((k : ℤ) × (natAbs (pos (2 * (d .value + d .slope * x)) +ℤ d .curve *ℤ pos (x * (x - 1)) +ℤ k *ℤ pos (2 * d .modulus)) < 2 * d .window))
 
--- what hard means for a segment, on one side: below N, with an r below M and below w that differs from b - a·x by a multiple of M. With b below M that
--- multiple is not negative
+-- what the residue of x is for a segment: the r below M that differs from b - a·x by a multiple of M. With b below M that multiple is not negative
+abbrev pub Residue-in-segment : (M a b x r : ℕ) → Type 0
+Residue-in-segment M a b x r = (r < M) × ((k : ℕ) × (r + a * x ≡ b + k * M))
+
+-- and what hard means, on one side: below N, with a residue below w
 abbrev pub Hard-in-segment : (M a b N w x : ℕ) → Type 0
-Hard-in-segment M a b N w x = (x < N) × ((r : ℕ) × (r < M) × (r < w) × ((k : ℕ) × (r + a * x ≡ b + k * M)))
+Hard-in-segment M a b N w x = (x < N) × ((r : ℕ) × Residue-in-segment M a b x r × (r < w))
 
 -- ---- the covering segments
 
@@ -83,8 +94,8 @@ pub record Coverings-correct (d : Domain) : Type 0 where
 -- list is right. Where nothing that is asked before the window refuses it, it is now refused by 5, whatever its curve and the places
 pub record Without-window (d : Domain) : Type 0 where
   pub none-hard : (x : ℕ) → Hard-in-numbers d x → ⊥
-  pub refused : (places : ℕ) → 2 ≤ d .modulus → d .modulus ≤ 2 ^ 62 → d .slope < d .modulus → d .value < d .modulus → 1 ≤ d .count → d .count ≤ 1048576
-      → domain-answer d places ≡ domain-variants.Refused 5
+  pub refused : (list-places value-places : ℕ) → 2 ≤ d .modulus → d .modulus ≤ 2 ^ 62 → d .slope < d .modulus → d .value < d .modulus
+      → 1 ≤ d .count → d .count ≤ 1048576 → domain-answer d list-places value-places ≡ domain-variants.Refused 5
 
 -- ---- the phases
 
@@ -127,64 +138,77 @@ pub record Marks-correct (d : Domain) (first : Verdict) (marks : List ℕ) : Typ
 
 -- ---- refusals
 
--- what is asked of a domain with a list of so many places, in this order, with the number of each refusal
-abbrev pub Asked : Domain → (places : ℕ) → List Condition
-Asked d places =
+-- what is asked of a domain with a list and values of so many places, in this order, with the number of each refusal
+abbrev pub Asked : Domain → (list-places value-places : ℕ) → List Condition
+Asked d list-places value-places =
     condition 1 ((2 ≤ d .modulus) × (d .modulus ≤ 2 ^ 62))
     ∷ condition 2 (d .slope < d .modulus)
     ∷ condition 3 (d .value < d .modulus)
     ∷ condition 4 ((1 ≤ d .count) × (d .count ≤ 1048576))
     ∷ condition 5 ((1 ≤ d .window) × (d .window ≤ d .modulus))
     ∷ condition 6 (natAbs (d .curve) ≤ 1048576)
-    ∷ condition 7 (length (hard-arguments d) ≤ places)
+    ∷ condition 7 ((length (hard-arguments d) ≤ list-places) × (length (hard-arguments d) ≤ value-places))
     ∷ []
 
 -- a number refuses a domain: its condition is the first that does not hold
-abbrev pub Refused-for : Domain → (places number : ℕ) → Type 0
-Refused-for d places n = Refused-by (Asked d places) n
+abbrev pub Refused-for : Domain → (list-places value-places number : ℕ) → Type 0
+Refused-for d list-places value-places n = Refused-by (Asked d list-places value-places) n
 
 -- the same of a scan: as the searches ask it of a segment, and then for room
-abbrev pub Scan-asked : Segment → (places : ℕ) → List Condition
-Scan-asked s places =
+abbrev pub Scan-asked : Segment → (list-places value-places : ℕ) → List Condition
+Scan-asked s list-places value-places =
     condition 1 ((2 ≤ s .unit) × (s .unit ≤ 2 ^ 62))
     ∷ condition 2 (s .step < s .unit)
     ∷ condition 3 (s .start < s .unit)
     ∷ condition 4 ((1 ≤ s .count) × (s .count ≤ 1048576))
     ∷ condition 5 ((1 ≤ s .window) × (s .window ≤ s .unit))
-    ∷ condition 7 (length (geometry.hard-list s) ≤ places)
+    ∷ condition 7 ((length (geometry.hard-list s) ≤ list-places) × (length (geometry.hard-list s) ≤ value-places))
     ∷ []
 
-abbrev pub Scan-refused-for : Segment → (places number : ℕ) → Type 0
-Scan-refused-for s places n = Refused-by (Scan-asked s places) n
+abbrev pub Scan-refused-for : Segment → (list-places value-places number : ℕ) → Type 0
+Scan-refused-for s list-places value-places n = Refused-by (Scan-asked s list-places value-places) n
 
 -- ---- answers
 
--- what a domain is answered with the marks `old-marks` and a list `old`, and what is then in the marks and in the list, `new-marks` and `new`
-pub record Domain-correct (d : Domain) (old-marks old : List ℕ) (answer : DomainAnswer) (new-marks new : List ℕ) : Type 0 where
-  -- a number refuses exactly where its condition is the first that does not hold, and leaves marks and list as they were
-  pub refused : (n : ℕ) → (answer ≡ domain-variants.Refused n) ↔ Refused-for d (length old) n
-  pub unchanged : (n : ℕ) → answer ≡ domain-variants.Refused n → (new-marks ≡ old-marks) × (new ≡ old)
-  -- otherwise it is accepted, and there are places enough
+-- what a domain is answered with the marks `old-marks`, a list `old` and values `old-values`, and what is then in them, `new-marks`, `new` and `new-values`
+pub record Domain-correct (d : Domain) (old-marks old old-values : List ℕ) (answer : DomainAnswer) (new-marks new new-values : List ℕ) : Type 0 where
+  -- a number refuses exactly where its condition is the first that does not hold, and leaves marks, list and values as they were
+  pub refused : (n : ℕ) → (answer ≡ domain-variants.Refused n) ↔ Refused-for d (length old) (length old-values) n
+  pub unchanged : (n : ℕ) → answer ≡ domain-variants.Refused n → (new-marks ≡ old-marks) × (new ≡ old) × (new-values ≡ old-values)
+  -- otherwise it is accepted, and there are places enough in both
   pub searched : (v : Verdict) (n : ℕ) → (answer ≡ domain-variants.Searched v n)
-      ↔ (Accepted d × (length (hard-arguments d) ≤ length old) × (v ≡ verdict regular (covering-of d)) × (n ≡ length (hard-arguments d)))
+      ↔ (Accepted d × (length (hard-arguments d) ≤ length old) × (length (hard-arguments d) ≤ length old-values)
+      × (v ≡ verdict regular (covering-of d)) × (n ≡ length (hard-arguments d)))
   pub marked : (v : Verdict) (n : ℕ) → answer ≡ domain-variants.Searched v n → Marks-correct d v new-marks
-  pub cleared : (n : ℕ) → answer ≡ domain-variants.Searched Clear n → (n ≡ 0) × (new ≡ old) × ((x : ℕ) → Hard-in-numbers d x → ⊥)
+  pub cleared : (n : ℕ) → answer ≡ domain-variants.Searched Clear n
+      → (n ≡ 0) × (new ≡ old) × (new-values ≡ old-values) × ((x : ℕ) → Hard-in-numbers d x → ⊥)
   pub written : (v : Verdict) (n : ℕ) → answer ≡ domain-variants.Searched v n
-      → (new-marks ≡ marks-of d) × (new ≡ overwrite-front (hard-arguments d) old)
+      → (new-marks ≡ marks-of d) × (new ≡ overwrite-front (hard-arguments d) old) × (new-values ≡ overwrite-front (hard-values d) old-values)
   pub buffer : (v : Verdict) (n : ℕ) → answer ≡ domain-variants.Searched v n → Buffer-correct (hard-arguments d) old new
+  pub values-buffer : (v : Verdict) (n : ℕ) → answer ≡ domain-variants.Searched v n → Buffer-correct (hard-values d) old-values new-values
   -- from the call's numbers to what then lies in the caller's list, and that it ascends strictly there
   pub hard : (v : Verdict) (n : ℕ) → answer ≡ domain-variants.Searched v n → Enumerates (Hard-in-numbers d) n (take n new)
   pub ascends : (v : Verdict) (n : ℕ) → answer ≡ domain-variants.Searched v n → (i j : ℕ) → i < j → j < n → getD new i 0 < getD new j 0
+  -- and what lies beside each listed argument is its value
+  pub values : (v : Verdict) (n : ℕ) → answer ≡ domain-variants.Searched v n → (i : ℕ) → i < n → Value-in-numbers d (getD new i 0) (getD new-values i 0)
+  -- the places after them are as they were in both
+  pub after : (v : Verdict) (n : ℕ) → answer ≡ domain-variants.Searched v n → (i : ℕ) → n ≤ i
+      → (getD new i 0 ≡ getD old i 0) × (getD new-values i 0 ≡ getD old-values i 0)
 
--- what the scan of a segment is answered with a list `old`, and what is then in the list, `new`
-pub record Scan-correct (s : Segment) (old : List ℕ) (answer : ScanAnswer) (new : List ℕ) : Type 0 where
-  pub refused : (n : ℕ) → (answer ≡ scan-variants.Refused n) ↔ Scan-refused-for s (length old) n
-  pub unchanged : (n : ℕ) → answer ≡ scan-variants.Refused n → new ≡ old
+-- what the scan of a segment is answered with a list `old` and values `old-values`, and what is then in them, `new` and `new-values`
+pub record Scan-correct (s : Segment) (old old-values : List ℕ) (answer : ScanAnswer) (new new-values : List ℕ) : Type 0 where
+  pub refused : (n : ℕ) → (answer ≡ scan-variants.Refused n) ↔ Scan-refused-for s (length old) (length old-values) n
+  pub unchanged : (n : ℕ) → answer ≡ scan-variants.Refused n → (new ≡ old) × (new-values ≡ old-values)
   pub listed : (n : ℕ) → (answer ≡ scan-variants.Listed n)
-      ↔ (segment.Accepted s × (length (geometry.hard-list s) ≤ length old) × (n ≡ length (geometry.hard-list s)))
+      ↔ (segment.Accepted s × (length (geometry.hard-list s) ≤ length old) × (length (geometry.hard-list s) ≤ length old-values)
+      × (n ≡ length (geometry.hard-list s)))
   pub buffer : (n : ℕ) → answer ≡ scan-variants.Listed n → Buffer-correct (geometry.hard-list s) old new
+  pub values-buffer : (n : ℕ) → answer ≡ scan-variants.Listed n → Buffer-correct (hard-residues s) old-values new-values
   pub hard : (n : ℕ) → answer ≡ scan-variants.Listed n → Enumerates (Hard-in-segment (s .unit) (s .step) (s .start) (s .count) (s .window)) n (take n new)
   pub ascends : (n : ℕ) → answer ≡ scan-variants.Listed n → (i j : ℕ) → i < j → j < n → getD new i 0 < getD new j 0
+  pub values : (n : ℕ) → answer ≡ scan-variants.Listed n → (i : ℕ) → i < n
+      → Residue-in-segment (s .unit) (s .step) (s .start) (getD new i 0) (getD new-values i 0)
+  pub after : (n : ℕ) → answer ≡ scan-variants.Listed n → (i : ℕ) → n ≤ i → (getD new i 0 ≡ getD old i 0) × (getD new-values i 0 ≡ getD old-values i 0)
 
 -- ---- all of it
 
@@ -201,6 +225,7 @@ pub record Promised : Type 0 where
   -- hard is what is less than w from the nearest multiple of M
   pub nearest : (d : Domain) → Accepted d → (x : ℕ) → Hard-in-numbers d x ↔ Near-a-multiple d x
   pub hard-lists : (d : Domain) → Accepted d → Enumerates (Hard-in-numbers d) (length (hard-arguments d)) (hard-arguments d)
+  pub hard-values-are : (d : Domain) → Accepted d → Values-beside d (hard-arguments d) (hard-values d)
   pub coverings : (d : Domain) → Accepted d → Coverings-correct d
   -- where parts begin and how long they are; the parts of a domain; and those of the parabola that the phases search, whose lists make up the list of the domain
   pub eight-parts : (d : Domain) → Eight-parts-correct (d .count)
@@ -212,17 +237,20 @@ pub record Promised : Type 0 where
       ≡ record { value = value-at p (suc x); slope = slope-at p (suc x) }
   pub phases : (d : Domain) → Accepted d → Phases-correct d
   -- 1 to 5 refuse a domain exactly where they refuse the segment with its slope for the step and its value for the start
-  pub refused-as-segment : (d : Domain) (places n : ℕ) → 1 ≤ n → n ≤ 5
-      → (domain-answer d places ≡ domain-variants.Refused n)
+  pub refused-as-segment : (d : Domain) (list-places value-places n : ℕ) → 1 ≤ n → n ≤ 5
+      → (domain-answer d list-places value-places ≡ domain-variants.Refused n)
       ↔ (segment.refusal (segment.asked (d .modulus) (d .slope) (d .value) (d .count) (d .window)) ≡ n)
   -- counts that were accepted before document 02's 2.2, the multiples of 8 from 8 on, have the marks of before: by the verdict on each of eight parts of N/8
   -- arguments, of which none is without arguments
   pub marks-as-before : (d : Domain) → Accepted d → 8 ≤ d .count → d .count % 8 ≡ 0 → verdict regular (covering-of d) ≡ Possible → (i : ℕ) → i < 8
       → getD (marks-of d) i 0 ≡ mark-of (verdict fine (covering (continued (centred-of d) (i * (d .count / 8)) (d .count / 8))))
-  pub domains : (d : Domain) (old-marks old : List ℕ)
-      → Domain-correct d old-marks old (domain-answer d (length old)) (marks-after d (length old) old-marks) (list-after d old)
-  pub scans : (M a b N w : ℕ) (old : List ℕ)
-      → segment-promise.for-segment (λ s. Scan-correct s old (scan-answer M a b N w (length old)) (scan-list-after M a b N w old)) M a b N w
+  pub domains : (d : Domain) (old-marks old old-values : List ℕ)
+      → Domain-correct d old-marks old old-values (domain-answer d (length old) (length old-values))
+      (marks-after d (length old) (length old-values) old-marks) (list-after d (length old-values) old) (values-after d (length old) old-values)
+  pub scans : (M a b N w : ℕ) (old old-values : List ℕ)
+      → segment-promise.for-segment
+      (λ s. Scan-correct s old old-values (scan-answer M a b N w (length old) (length old-values))
+      (scan-list-after M a b N w (length old-values) old) (scan-values-after M a b N w (length old) old-values)) M a b N w
   pub without-window : (d : Domain) → d .window ≡ 0 → Without-window d
   -- 01's numbers and values for the cases of an answer: the refusal or 0, how many it listed or 0, phase 1's verdict
   pub domain-numbers : (v : Verdict) (n : ℕ)

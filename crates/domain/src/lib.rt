@@ -1,7 +1,8 @@
 // Scans of segments and the search of a domain, the parabola V(x) = (value + slope·x + curve·x(x-1)/2) mod modulus over the arguments x below
 // count. A domain's argument is hard where V(x) is less than the window from a multiple of the modulus, on either side: all hard arguments are
-// listed, and a domain that is cleared has none. A segment's is hard where its residue is less than the window, on one side.
+// listed, each with its value, and a domain that is cleared has none. A segment's is hard where its residue is less than the window, on one side.
 ghost use mathlib.Core.Path.{_≡_};
+ghost use Prim.Native.Nat.{_<_};
 ghost use lib.ListN.{length};
 ghost use Rattle.expansion.specs.Reached.Search.{regular};
 ghost use Rattle.segment.specs.Search.{verdict};
@@ -9,19 +10,20 @@ ghost use Rattle.segment.specs.declared.Verdict.the-variants.{Possible};
 ghost use Rattle.parabola.specs.Parabola.{In-range, covering};
 ghost use Rattle.arc.specs.Arc.{parabola};
 ghost use Rattle.domain.specs.Domain.{centred-of, Accepted};
-ghost use Rattle.domain.specs.Answer.{too-few, answer-with, marks-with, list-with, domain-answer, marks-after, list-after, scan-answer, scan-list-after};
+ghost use Rattle.domain.specs.Answer.{too-few, answer-with, marks-with, list-with, values-with, domain-answer, marks-after, list-after, values-after, scan-answer, scan-list-after, scan-values-after};
 
 mod phases;
 mod scan;
 
 use arc::Arc;
 use numbers::min;
-use numbers::reduce;
 use phases::examine_parts;
 use phases::list_parts;
 use scan::add;
 use scan::count_hard;
+use scan::list_all;
 use scan::list_hard;
+use scan::subtract;
 
 // A domain, with the words of a job.
 pub struct Domain {
@@ -48,9 +50,9 @@ pub enum DomainAnswer {
     },
 }
 
-// Lists the hard arguments of the segment (start - step·x) mod modulus, ascending from the first place of the list; the places after them are
-// left as they were. Refused as a search of the segment is, and else by 7 where the list has fewer places than there are hard arguments: on a
-// refusal the list is as it was.
+// Lists the hard arguments of the segment (start - step·x) mod modulus, ascending from the first place of the list, and beside each, at the same place of the values,
+// its residue; the places after them are left as they were. Refused as a search of the segment is, and else by 7 where the list or the values have fewer places than
+// there are hard arguments: on a refusal both are as they were.
 pub fn scan_segment(
     modulus: u64,
     step: u64,
@@ -58,9 +60,11 @@ pub fn scan_segment(
     count: u64,
     window: u64,
     list: &mut [u32],
+    values: &mut [u64],
 ) -> ScanAnswer
-    ensures { λ r. ⌜ r ≡ scan-answer modulus step start count window (length (now (list .entry))) ⌝ }
-    ensures { λ r. ⌜ now (list .exit) ≡ scan-list-after modulus step start count window (now (list .entry)) ⌝ }
+    ensures { λ r. ⌜ r ≡ scan-answer modulus step start count window (length (now (list .entry))) (length (now (values .entry))) ⌝ }
+    ensures { λ r. ⌜ now (list .exit) ≡ scan-list-after modulus step start count window (length (now (values .entry))) (now (list .entry)) ⌝ }
+    ensures { λ r. ⌜ now (values .exit) ≡ scan-values-after modulus step start count window (length (now (list .entry))) (now (values .entry)) ⌝ }
 {
     let number = segment::refuse(modulus, step, start, count, window);
     if number != 0 {
@@ -69,30 +73,41 @@ pub fn scan_segment(
     let line = Arc {
         modulus: modulus,
         value: start,
-        slope: reduce(modulus - step, modulus),
+        slope: subtract(0, step, modulus),
         curve: 0,
         count: count,
         highest: window - 1,
     };
+    let places = min(list.len() as u64, values.len() as u64);
     let listed = count_hard(line);
-    if list.len() < listed as usize {
+    if places < listed as u64 {
         return ScanAnswer::Refused(7);
     }
-    list_hard(line, 0, listed, list, 0);
+    if listed as u64 == count {
+        list_all(line, list, values);
+        return ScanAnswer::Listed(listed);
+    }
+    list_hard(line, 0, 0, listed, list, values, 0);
     ScanAnswer::Listed(listed)
 }
 
 // Searches a domain in three phases: the whole of it; if that is possible, each of eight parts; and all arguments of the parts that are
 // possible. Each part has an eighth of the arguments, rounded down, and the first ones have one more until the rest is used up. The marks become 0
 // where parts are not looked at, 1 for a part that is clear, 2 for one that is possible and was scanned, 3 for one that has no argument. The hard
-// arguments are listed as by a scan.
+// arguments are listed as by a scan, and beside each, at the same place of the values, V(x).
 // Refused: 1 where the modulus is outside 2 to 2^62, else 2 where the slope is not below it, else 3 where the value is not, else 4 where the
 // count is outside 1 to 1,048,576, else 5 where the window is outside 1 to the modulus, else 6 where the curve is outside -1,048,576 to 1,048,576, else 7
-// where the list has fewer places than there are hard arguments. On a refusal marks and list are as they were.
-pub fn search_domain(domain: Domain, marks: &mut [u8; 8], list: &mut [u32]) -> DomainAnswer
-    ensures { λ r. ⌜ r ≡ domain-answer domain (length (now (list .entry))) ⌝ }
-    ensures { λ r. ⌜ now (marks .exit) ≡ marks-after domain (length (now (list .entry))) (now (marks .entry)) ⌝ }
-    ensures { λ r. ⌜ now (list .exit) ≡ list-after domain (now (list .entry)) ⌝ }
+// where the list or the values have fewer places than there are hard arguments. On a refusal marks, list and values are as they were.
+pub fn search_domain(
+    domain: Domain,
+    marks: &mut [u8; 8],
+    list: &mut [u32],
+    values: &mut [u64],
+) -> DomainAnswer
+    ensures { λ r. ⌜ r ≡ domain-answer domain (length (now (list .entry))) (length (now (values .entry))) ⌝ }
+    ensures { λ r. ⌜ now (marks .exit) ≡ marks-after domain (length (now (list .entry))) (length (now (values .entry))) (now (marks .entry)) ⌝ }
+    ensures { λ r. ⌜ now (list .exit) ≡ list-after domain (length (now (values .entry))) (now (list .entry)) ⌝ }
+    ensures { λ r. ⌜ now (values .exit) ≡ values-after domain (length (now (list .entry))) (now (values .entry)) ⌝ }
 {
     let number = arc::refuse(
         domain.modulus,
@@ -114,7 +129,7 @@ pub fn search_domain(domain: Domain, marks: &mut [u8; 8], list: &mut [u32]) -> D
                 listed: 0,
             }
         }
-        segment::Verdict::Possible => search_parts(arc, marks, list),
+        segment::Verdict::Possible => { search_parts(arc, domain.window - 1, marks, list, values) }
     }
 }
 
@@ -135,22 +150,31 @@ fn centred(domain: Domain) -> Arc
     }
 }
 
-// Phases 2 and 3 of an arc that phase 1 does not clear: the hard arguments are counted before anything is written.
-fn search_parts(arc: Arc, marks: &mut [u8; 8], list: &mut [u32]) -> DomainAnswer
+// Phases 2 and 3 of an arc that phase 1 does not clear, and whose values were raised: the hard arguments are counted before anything is written.
+fn search_parts(
+    arc: Arc,
+    raise: u64,
+    marks: &mut [u8; 8],
+    list: &mut [u32],
+    values: &mut [u64],
+) -> DomainAnswer
     requires { ⌜ In-range (parabola arc) ⌝ }
     requires { ⌜ verdict regular (covering (parabola arc)) ≡ Possible ⌝ }
-    ensures { λ r. ⌜ r ≡ answer-with (too-few (parabola arc) (length (now (list .entry)))) (parabola arc) ⌝ }
-    ensures { λ r. ⌜ now (marks .exit) ≡ marks-with (too-few (parabola arc) (length (now (list .entry)))) (parabola arc) (now (marks .entry)) ⌝ }
-    ensures { λ r. ⌜ now (list .exit) ≡ list-with (too-few (parabola arc) (length (now (list .entry)))) (parabola arc) (now (list .entry)) ⌝ }
+    requires { ⌜ raise < arc .modulus ⌝ }
+    ensures { λ r. ⌜ r ≡ answer-with (too-few (parabola arc) (length (now (list .entry))) (length (now (values .entry)))) (parabola arc) ⌝ }
+    ensures { λ r. ⌜ now (marks .exit) ≡ marks-with (too-few (parabola arc) (length (now (list .entry))) (length (now (values .entry)))) (parabola arc) (now (marks .entry)) ⌝ }
+    ensures { λ r. ⌜ now (list .exit) ≡ list-with (too-few (parabola arc) (length (now (list .entry))) (length (now (values .entry)))) (parabola arc) (now (list .entry)) ⌝ }
+    ensures { λ r. ⌜ now (values .exit) ≡ values-with (too-few (parabola arc) (length (now (list .entry))) (length (now (values .entry)))) raise (parabola arc) (now (values .entry)) ⌝ }
 {
+    let places = min(list.len() as u64, values.len() as u64);
     let report = examine_parts(arc);
-    if list.len() < report.total as usize {
+    if places < report.total as u64 {
         return DomainAnswer::Refused(7);
     }
     let found = report.marks;
     *marks = found;
     let hard = report.hard;
-    list_parts(arc, hard, list);
+    list_parts(arc, raise, hard, list, values);
     DomainAnswer::Searched {
         first: segment::Verdict::Possible,
         listed: report.total,

@@ -1,12 +1,12 @@
-// Scans: the hard arguments of an arc counted and listed by going from each value to the next.
+// Scans: the hard arguments of an arc counted, and listed with their values, by going from each value to the next.
 ghost use mathlib.Core.Path.{_≡_};
 ghost use mathlib.Core.List.{map};
-ghost use Prim.Native.Nat.{_+_, _%_, _^_, _≤_, _<_};
+ghost use Prim.Native.Nat.{_+_, _-_, _%_, _^_, _≤_, _<_};
 ghost use lib.ListN.{length};
 ghost use lib.Seq.{sets};
 ghost use Rattle.parabola.specs.Parabola.{In-range, hard-list};
 ghost use Rattle.arc.specs.Arc.{parabola};
-ghost use Rattle.domain.specs.Scan.{Point-below, next-point};
+ghost use Rattle.domain.specs.Scan.{Point-below, next-point, lowered-values};
 use arc::Arc;
 use numbers::remainder;
 
@@ -57,11 +57,25 @@ fn add_fixed(a: u64, b: u64, modulus: u64) -> u64
     a - rest
 }
 
-// How many hard arguments there are.
+// a - b modulo M. Where b is known to be 0, the compiler sees that there is nothing to do.
+pub(crate) fn subtract(a: u64, b: u64, modulus: u64) -> u64
+    requires { ⌜ (a < modulus) × (b < modulus) × (modulus ≤ 2 ^ 62) ⌝ }
+    ensures { λ r. ⌜ r ≡ (a + (modulus - b)) % modulus ⌝ }
+{
+    if b <= a {
+        return a - b;
+    }
+    a + (modulus - b)
+}
+
+// How many hard arguments there are. Where no value is above the highest hard one, every argument is hard, and none need be visited.
 pub(crate) fn count_hard(arc: Arc) -> u32
     requires { ⌜ In-range (parabola arc) ⌝ }
     ensures { λ r. ⌜ r ≡ length (hard-list (parabola arc)) ⌝ }
 {
+    if arc.highest == arc.modulus - 1 {
+        return arc.count as u32;
+    }
     let second = remainder(arc.curve, arc.modulus);
     let mut point = Point {
         value: arc.value,
@@ -77,14 +91,25 @@ pub(crate) fn count_hard(arc: Arc) -> u32
     number
 }
 
-// Writes the hard arguments, of which there are `number`, into the list from a place on, each larger by what the arc begins at. It ends with the last of
-// them.
-pub(crate) fn list_hard(arc: Arc, begin: u32, number: u32, list: &mut [u32], place: usize)
+// Writes the hard arguments, of which there are `number`, into the list from a place on, each larger by what the arc begins at, and beside each its value as it
+// was before the arc was raised. It ends with the last of them. The next value is formed before this one is written, so that the sum and the writes overlap.
+pub(crate) fn list_hard(
+    arc: Arc,
+    raise: u64,
+    begin: u32,
+    number: u32,
+    list: &mut [u32],
+    values: &mut [u64],
+    place: usize,
+)
     requires { ⌜ In-range (parabola arc) ⌝ }
+    requires { ⌜ raise < arc .modulus ⌝ }
     requires { ⌜ number ≡ length (hard-list (parabola arc)) ⌝ }
     requires { ⌜ begin ≤ 1048576 ⌝ }
     requires { ⌜ place + number ≤ length (now list) ⌝ }
+    requires { ⌜ place + number ≤ length (now values) ⌝ }
     ensures { λ _. ⌜ now (list .exit) ≡ sets (now (list .entry)) place (map (λ x. begin + x) (hard-list (parabola arc))) ⌝ }
+    ensures { λ _. ⌜ now (values .exit) ≡ sets (now (values .entry)) place (lowered-values raise (parabola arc)) ⌝ }
 {
     let second = remainder(arc.curve, arc.modulus);
     let mut point = Point {
@@ -95,10 +120,36 @@ pub(crate) fn list_hard(arc: Arc, begin: u32, number: u32, list: &mut [u32], pla
     let mut at = place;
     let mut x = begin;
     while at < end {
-        if point.value <= arc.highest {
+        let value = point.value;
+        point = next(point, second, arc.modulus);
+        if value <= arc.highest {
             list[at] = x;
+            values[at] = subtract(value, raise, arc.modulus);
             at = at + 1;
         }
+        x = x + 1;
+    }
+}
+
+// The same for an arc that is not raised, whose arguments are all hard, from the first place on. There is nothing to test.
+pub(crate) fn list_all(arc: Arc, list: &mut [u32], values: &mut [u64])
+    requires { ⌜ In-range (parabola arc) ⌝ }
+    requires { ⌜ length (hard-list (parabola arc)) ≡ arc .count ⌝ }
+    requires { ⌜ arc .count ≤ length (now list) ⌝ }
+    requires { ⌜ arc .count ≤ length (now values) ⌝ }
+    ensures { λ _. ⌜ now (list .exit) ≡ sets (now (list .entry)) 0 (map (λ x. 0 + x) (hard-list (parabola arc))) ⌝ }
+    ensures { λ _. ⌜ now (values .exit) ≡ sets (now (values .entry)) 0 (lowered-values 0 (parabola arc)) ⌝ }
+{
+    let second = remainder(arc.curve, arc.modulus);
+    let mut point = Point {
+        value: arc.value,
+        slope: arc.slope,
+    };
+    let end = arc.count as u32;
+    let mut x: u32 = 0;
+    while x < end {
+        list[x as usize] = x;
+        values[x as usize] = point.value;
         point = next(point, second, arc.modulus);
         x = x + 1;
     }

@@ -27,12 +27,12 @@ use Rattle.segment.proofs.Laws.{verdict-iff, regular-shows, fine-shows}
 use Rattle.parabola.specs.Parabola as parabola
 use Rattle.parabola.specs.Parabola.{triangle, value-at, slope-at, spread, covering-step, start-over, covering-start, covering-window, continued, part-count, part-start}
 use Rattle.domain.specs.Phases.{mark-of, mark-with, marks-by}
-use Rattle.domain.specs.Answer.{domain-number, answer-with as domain-answer-with, domain-answer, marks-after, list-after, scan-number, scan-answer-with, scan-answer, scan-list-after}
+use Rattle.domain.specs.Answer.{domain-number, answer-with as domain-answer-with, domain-answer, marks-after, list-after, values-after, scan-number, scan-answer-with, scan-answer, scan-list-after, scan-values-after}
 use Rattle.text.specs.Text.{decimal-within, decimal}
 use Rattle.text.specs.Reading.{starts, takes-digit, digits-from, number-from, field-at, unsigned, opposite, signed-from, signed-field-at}
 use Rattle.job.specs.Reading.{rest-from, reading}
 use Rattle.job.specs.Output.{verdict-name, argument-lines, refused, report, printed-for, printed, output-with, output-of}
-use Rattle.examples.specs.Settled.{Regular-shows, Fine-shows, Example-1, Example-6, Example-7, Example-8, Example-9, Example-10, Example-11, Both-sides, Any-length, Windows-from-1, Digits-and-division, Settled}
+use Rattle.examples.specs.Settled.{Regular-shows, Fine-shows, Example-1, Example-6, Example-7, Example-8, Example-9, Example-10, Example-11, Both-sides, Any-length, Windows-from-1, Values-beside-arguments, Digits-and-division, Settled}
 
 example-1 : Example-1
 unfolding decLe decLt Dec·and ranged first-failing rows-from expansion zero-padded refusal answer-with answer regular-from regular parts-from fine-from fine
@@ -89,52 +89,75 @@ example-8 =
 -- ---- scans and domains
 
 example-9 : Example-9
-unfolding decLe decLt Dec·and ranged first-failing unless-refused filter-range overwrite-front residue geometry.is-hard geometry.hard-list scan-number scan-answer-with scan-answer scan-list-after
+unfolding decLe decLt Dec·and ranged first-failing unless-refused filter-range overwrite-front residue geometry.is-hard geometry.hard-list scan-number scan-answer-with scan-answer scan-list-after scan-values-after
 example-9 =
     record {
       hard-6 = refl;
       hard-3 = refl;
       answered-6 = refl;
       left-6 = λ x y z. refl;
+      values-6 = λ x y z. refl;
       answered-3 = refl;
       left-3 = λ x. refl;
-      answered-0 = λ places. refl;
-      left-0 = λ old. refl;
+      values-3 = λ x. refl;
+      answered-0 = λ m n. refl;
+      left-0 = λ n old. refl;
+      values-0 = λ m old. refl;
       too-few = refl;
       left-too-few = λ x. refl;
+      values-too-few = λ x. refl;
     }
 
-domains : Example-10 × Example-11 × Both-sides × Any-length × Windows-from-1
-unfolding decLe decLt Dec·and ranged first-failing unless-refused rows-from expansion regular-from regular parts-from fine-from fine configurations-of reached-in reached residue least-from argument distance verdict-at segments.refusal regular-shown fine-shown regular-answer-with fine-answer-with regular-answer fine-answer filter-range tabulate overwrite-front _modulo_ triangle value-at slope-at geometry.is-hard geometry.hard-list parabola.is-hard parabola.hard-list parabola.centred spread covering-step start-over covering-start covering-window continued part-count part-start mark-of mark-with marks-by scan-number scan-answer-with scan-answer scan-list-after domain-number domain-answer-with domain-answer marks-after list-after decimal-within decimal starts takes-digit digits-from number-from field-at unsigned opposite signed-from signed-field-at rest-from reading verdict-name argument-lines refused report printed-for printed output-with output-of
+domains : Example-10 × Example-11 × Both-sides × Any-length × Windows-from-1 × Values-beside-arguments
+unfolding decLe decLt Dec·and ranged first-failing unless-refused rows-from expansion regular-from regular parts-from fine-from fine configurations-of reached-in reached residue least-from argument distance verdict-at segments.refusal regular-shown fine-shown regular-answer-with fine-answer-with regular-answer fine-answer filter-range tabulate overwrite-front _modulo_ triangle value-at slope-at geometry.is-hard geometry.hard-list parabola.is-hard parabola.hard-list parabola.centred spread covering-step start-over covering-start covering-window continued part-count part-start mark-of mark-with marks-by scan-number scan-answer-with scan-answer scan-list-after scan-values-after domain-number domain-answer-with domain-answer marks-after list-after values-after decimal-within decimal starts takes-digit digits-from number-from field-at unsigned opposite signed-from signed-field-at rest-from reading verdict-name argument-lines refused report printed-for printed output-with output-of
 domains = (
-  record { prints = refl; read = refl; answered = refl; marks = λ old. refl; left = λ x y z. refl; covered = refl; too-few = refl; left-too-few = λ x. refl },
+  record {
+    prints = refl;
+    read = refl;
+    answered = refl;
+    marks = λ old. refl;
+    left = λ x y z. refl;
+    values = λ x y z. refl;
+    covered = refl;
+    too-few = refl;
+    left-too-few = λ x. refl;
+    values-too-few = λ x. refl;
+  },
   record {
     rising = refl;
     rising-marks = λ old. refl;
     rising-left = λ x y. refl;
+    rising-values = λ x y. refl;
     falling = refl;
     falling-marks = λ old. refl;
     falling-left = λ x y. refl;
+    falling-values = λ x y. refl;
   },
   record {
     line-2 = refl;
     line-2-marks = λ old. refl;
     line-2-left = λ x y. refl;
+    line-2-values = λ x y. refl;
     line-6 = refl;
     line-6-left = refl;
+    line-6-values = refl;
     above-5 = refl;
     above-6 = refl;
     above-6-left = refl;
+    above-6-values = refl;
     below-5 = refl;
     below-6 = refl;
     below-6-left = refl;
+    below-6-values = refl;
     rising = refl;
     rising-marks = λ old. refl;
     rising-left = λ x y. refl;
+    rising-values = λ x y. refl;
     rising-covered = refl;
     falling = refl;
     falling-marks = λ old. refl;
     falling-left = λ x y. refl;
+    falling-values = λ x y. refl;
     falling-covered = refl;
   },
   record {
@@ -145,14 +168,18 @@ domains = (
     prints-1 = refl;
     answered-12 = refl;
     left-12 = λ x y z. refl;
+    values-12 = λ x y z. refl;
     marks-3 = λ old. refl;
     left-3 = λ x y. refl;
+    values-3 = λ x y. refl;
     rising = refl;
     rising-marks = λ old. refl;
     rising-left = λ x y. refl;
+    rising-values = λ x y. refl;
     falling = refl;
     falling-marks = λ old. refl;
     falling-left = λ x y. refl;
+    falling-values = λ x y. refl;
     prints-cleared = refl;
     cleared-3 = refl;
     cleared-3-marks = λ old. refl;
@@ -171,22 +198,46 @@ domains = (
     fine-none = refl;
     scan-M = refl;
     scan-M-left = λ x y z. refl;
-    scan-above = λ places. refl;
-    scan-none = λ places. refl;
+    scan-M-values = λ x y z. refl;
+    scan-above = λ m n. refl;
+    scan-none = λ m n. refl;
     prints-0 = refl;
     prints-1 = refl;
     prints-above = refl;
     prints-M = refl;
-    domain-0 = λ places. refl;
-    marks-0 = λ places old. refl;
-    left-0 = λ old. refl;
+    domain-0 = λ m n. refl;
+    marks-0 = λ m n old. refl;
+    left-0 = λ n old. refl;
+    values-0 = λ m old. refl;
     domain-1 = refl;
     domain-M = refl;
     domain-M-left = λ x y z. refl;
-    none-and-0 = λ places. refl;
-    curve-and-0 = λ places. refl;
+    domain-M-values = λ x y z. refl;
+    none-and-0 = λ m n. refl;
+    curve-and-0 = λ m n. refl;
     curve-and-above = refl;
-    curve-alone = λ places. refl;
+    curve-alone = λ m n. refl;
+  },
+  record {
+    scan-list-short = refl;
+    scan-list-short-left = λ x. refl;
+    scan-list-short-values = λ x y. refl;
+    scan-values-short = refl;
+    scan-values-short-left = λ x y. refl;
+    scan-values-short-values = λ x. refl;
+    domain-list-short = refl;
+    domain-list-short-marks = λ old. refl;
+    domain-list-short-left = λ x. refl;
+    domain-list-short-values = λ x y. refl;
+    domain-values-short = refl;
+    domain-values-short-marks = λ old. refl;
+    domain-values-short-left = λ x y. refl;
+    domain-values-short-values = λ x. refl;
+    scan-longer-list = λ x y z. refl;
+    scan-longer-values = λ x y z. refl;
+    domain-longer-list = λ x y z. refl;
+    domain-longer-values = λ x y z. refl;
+    cleared-values = λ x. refl;
   },
 )
 
@@ -261,5 +312,6 @@ settled =
       both-sides = domains .2;
       any-length = domains .3;
       windows-from-1 = domains .4;
+      values-beside-arguments = domains .5;
       digits-and-division = digits-and-division;
     }

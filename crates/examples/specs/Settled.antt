@@ -19,7 +19,7 @@ use Rattle.segment.specs.declared.RegularAnswer.the-variants as regular-variant
 use Rattle.segment.specs.declared.FineAnswer.the-variants as fine-variants
 use Rattle.parabola.specs.Parabola.{part-start, part-count}
 use Rattle.domain.specs.Domain.{covering-of}
-use Rattle.domain.specs.Answer.{scan-answer, scan-list-after, domain-answer, marks-after, list-after}
+use Rattle.domain.specs.Answer.{scan-answer, scan-list-after, scan-values-after, domain-answer, marks-after, list-after, values-after}
 use Rattle.domain.specs.declared.ScanAnswer.the-variants as scan-variants
 use Rattle.domain.specs.declared.Domain.{Domain}
 use Rattle.domain.specs.declared.DomainAnswer.the-variants as domain-variants
@@ -109,18 +109,23 @@ pub record Example-8 : Type 0 where
   pub by-regular : Regular-shows 45 14 44 1 1 0 44 0
   pub by-fine : Fine-shows 45 14 44 1 1 0 0 44 0
 
--- the scan of M 45, a 14, b 44, N 16: w 6 lists 3, 6; w 3 lists 3; w 0 is 5 (02, 2.3). A place more stays as it was, and w 6 with one place is 7
+-- the scan of M 45, a 14, b 44, N 16: w 6 lists 3, 6 with the residues 2, 5 (02, 2.6); w 3 lists 3 with 2; w 0 is 5 (02, 2.3). A place more stays as it was, and
+-- w 6 with one place is 7
 pub record Example-9 : Type 0 where
   pub hard-6 : hard-list (segment 45 14 44 16 6) ≡ 3 ∷ 6 ∷ []
   pub hard-3 : hard-list (segment 45 14 44 16 3) ≡ 3 ∷ []
-  pub answered-6 : scan-answer 45 14 44 16 6 2 ≡ scan-variants.Listed 2
-  pub left-6 : (x y z : ℕ) → scan-list-after 45 14 44 16 6 (x ∷ y ∷ z ∷ []) ≡ 3 ∷ 6 ∷ z ∷ []
-  pub answered-3 : scan-answer 45 14 44 16 3 1 ≡ scan-variants.Listed 1
-  pub left-3 : (x : ℕ) → scan-list-after 45 14 44 16 3 (x ∷ []) ≡ 3 ∷ []
-  pub answered-0 : (places : ℕ) → scan-answer 45 14 44 16 0 places ≡ scan-variants.Refused 5
-  pub left-0 : (old : List ℕ) → scan-list-after 45 14 44 16 0 old ≡ old
-  pub too-few : scan-answer 45 14 44 16 6 1 ≡ scan-variants.Refused 7
-  pub left-too-few : (x : ℕ) → scan-list-after 45 14 44 16 6 (x ∷ []) ≡ x ∷ []
+  pub answered-6 : scan-answer 45 14 44 16 6 2 2 ≡ scan-variants.Listed 2
+  pub left-6 : (x y z : ℕ) → scan-list-after 45 14 44 16 6 3 (x ∷ y ∷ z ∷ []) ≡ 3 ∷ 6 ∷ z ∷ []
+  pub values-6 : (x y z : ℕ) → scan-values-after 45 14 44 16 6 3 (x ∷ y ∷ z ∷ []) ≡ 2 ∷ 5 ∷ z ∷ []
+  pub answered-3 : scan-answer 45 14 44 16 3 1 1 ≡ scan-variants.Listed 1
+  pub left-3 : (x : ℕ) → scan-list-after 45 14 44 16 3 1 (x ∷ []) ≡ 3 ∷ []
+  pub values-3 : (x : ℕ) → scan-values-after 45 14 44 16 3 1 (x ∷ []) ≡ 2 ∷ []
+  pub answered-0 : (m n : ℕ) → scan-answer 45 14 44 16 0 m n ≡ scan-variants.Refused 5
+  pub left-0 : (n : ℕ) (old : List ℕ) → scan-list-after 45 14 44 16 0 n old ≡ old
+  pub values-0 : (m : ℕ) (old : List ℕ) → scan-values-after 45 14 44 16 0 m old ≡ old
+  pub too-few : scan-answer 45 14 44 16 6 1 1 ≡ scan-variants.Refused 7
+  pub left-too-few : (x : ℕ) → scan-list-after 45 14 44 16 6 1 (x ∷ []) ≡ x ∷ []
+  pub values-too-few : (x : ℕ) → scan-values-after 45 14 44 16 6 1 (x ∷ []) ≡ x ∷ []
 
 -- job J's domain, M 45, c0 44, c1 31, with any count, curve and window
 abbrev pub J-with : (count : ℕ) (s : ℤ) (window : ℕ) → Domain
@@ -134,32 +139,36 @@ J-of n = J-with n (pos 0) 3
 abbrev pub J : Domain
 J = J-of 16
 
--- job J, bytes in and bytes out, by 02's request 2.1, and the segment that covers it
+-- job J, bytes in and bytes out, by 02's requests 2.1 and 2.6, and the segment that covers it
 pub record Example-10 : Type 0 where
   pub prints : output-of (bytes "modulus=45\nvalue=44\nslope=31\ncurve=0\ncount=16\nwindow=3\n")
-      ≡ bytes "first=possible\nparts=22111111\nlisted=2\nargument=0\nargument=3\n"
+      ≡ bytes "first=possible\nparts=22111111\nlisted=2\nargument=0 value=44\nargument=3 value=2\n"
   pub read : reading (bytes "modulus=45\nvalue=44\nslope=31\ncurve=0\ncount=16\nwindow=3\n")
       ≡ Read J
-  pub answered : domain-answer J 4096 ≡ domain-variants.Searched Possible 2
-  pub marks : (old : List ℕ) → marks-after J 4096 old ≡ 2 ∷ 2 ∷ 1 ∷ 1 ∷ 1 ∷ 1 ∷ 1 ∷ 1 ∷ []
-  pub left : (x y z : ℕ) → list-after J (x ∷ y ∷ z ∷ []) ≡ 0 ∷ 3 ∷ z ∷ []
+  pub answered : domain-answer J 4096 4096 ≡ domain-variants.Searched Possible 2
+  pub marks : (old : List ℕ) → marks-after J 4096 4096 old ≡ 2 ∷ 2 ∷ 1 ∷ 1 ∷ 1 ∷ 1 ∷ 1 ∷ 1 ∷ []
+  pub left : (x y z : ℕ) → list-after J 3 (x ∷ y ∷ z ∷ []) ≡ 0 ∷ 3 ∷ z ∷ []
+  pub values : (x y z : ℕ) → values-after J 3 (x ∷ y ∷ z ∷ []) ≡ 44 ∷ 2 ∷ z ∷ []
   pub covered : covering-of J ≡ segment 45 14 1 16 5
   -- with one place it is 7: 0 is hard too, whose value 44 is 1 below the modulus
-  pub too-few : domain-answer J 1 ≡ domain-variants.Refused 7
-  pub left-too-few : (x : ℕ) → list-after J (x ∷ []) ≡ x ∷ []
+  pub too-few : domain-answer J 1 1 ≡ domain-variants.Refused 7
+  pub left-too-few : (x : ℕ) → list-after J 1 (x ∷ []) ≡ x ∷ []
+  pub values-too-few : (x : ℕ) → values-after J 1 (x ∷ []) ≡ x ∷ []
 
 -- the domain M 45, c0 0, c1 0, N 8, w 1 with a curve
 abbrev pub bent : (s : ℤ) → Domain
 bent s = record { modulus = 45; value = 0; slope = 0; curve = s; count = 8; window = 1 }
 
--- with s 1: parts 22111111, list 0, 1. With s -1 the same
+-- with s 1: parts 22111111, list 0, 1 with the values 0, 0. With s -1 the same
 pub record Example-11 : Type 0 where
-  pub rising : domain-answer (bent (pos 1)) 2 ≡ domain-variants.Searched Possible 2
-  pub rising-marks : (old : List ℕ) → marks-after (bent (pos 1)) 2 old ≡ 2 ∷ 2 ∷ 1 ∷ 1 ∷ 1 ∷ 1 ∷ 1 ∷ 1 ∷ []
-  pub rising-left : (x y : ℕ) → list-after (bent (pos 1)) (x ∷ y ∷ []) ≡ 0 ∷ 1 ∷ []
-  pub falling : domain-answer (bent (negsuc 0)) 2 ≡ domain-variants.Searched Possible 2
-  pub falling-marks : (old : List ℕ) → marks-after (bent (negsuc 0)) 2 old ≡ 2 ∷ 2 ∷ 1 ∷ 1 ∷ 1 ∷ 1 ∷ 1 ∷ 1 ∷ []
-  pub falling-left : (x y : ℕ) → list-after (bent (negsuc 0)) (x ∷ y ∷ []) ≡ 0 ∷ 1 ∷ []
+  pub rising : domain-answer (bent (pos 1)) 2 2 ≡ domain-variants.Searched Possible 2
+  pub rising-marks : (old : List ℕ) → marks-after (bent (pos 1)) 2 2 old ≡ 2 ∷ 2 ∷ 1 ∷ 1 ∷ 1 ∷ 1 ∷ 1 ∷ 1 ∷ []
+  pub rising-left : (x y : ℕ) → list-after (bent (pos 1)) 2 (x ∷ y ∷ []) ≡ 0 ∷ 1 ∷ []
+  pub rising-values : (x y : ℕ) → values-after (bent (pos 1)) 2 (x ∷ y ∷ []) ≡ 0 ∷ 0 ∷ []
+  pub falling : domain-answer (bent (negsuc 0)) 2 2 ≡ domain-variants.Searched Possible 2
+  pub falling-marks : (old : List ℕ) → marks-after (bent (negsuc 0)) 2 2 old ≡ 2 ∷ 2 ∷ 1 ∷ 1 ∷ 1 ∷ 1 ∷ 1 ∷ 1 ∷ []
+  pub falling-left : (x y : ℕ) → list-after (bent (negsuc 0)) 2 (x ∷ y ∷ []) ≡ 0 ∷ 1 ∷ []
+  pub falling-values : (x y : ℕ) → values-after (bent (negsuc 0)) 2 (x ∷ y ∷ []) ≡ 0 ∷ 0 ∷ []
 
 -- ---- both sides of a breakpoint (2.1), in domains of eight arguments, one a part
 
@@ -183,26 +192,32 @@ falling-arc = record { modulus = 45; value = 11; slope = 8; curve = negsuc 0; co
 
 pub record Both-sides : Type 0 where
   -- a window of 2 lists 2 and 6, whose values are 9 and 1; a window of 6 lists all
-  pub line-2 : domain-answer (line-of-10 2) 2 ≡ domain-variants.Searched Possible 2
-  pub line-2-marks : (old : List ℕ) → marks-after (line-of-10 2) 2 old ≡ 1 ∷ 1 ∷ 2 ∷ 1 ∷ 1 ∷ 1 ∷ 2 ∷ 1 ∷ []
-  pub line-2-left : (x y : ℕ) → list-after (line-of-10 2) (x ∷ y ∷ []) ≡ 2 ∷ 6 ∷ []
-  pub line-6 : domain-answer (line-of-10 6) 8 ≡ domain-variants.Searched Possible 8
-  pub line-6-left : list-after (line-of-10 6) (replicate 8 0) ≡ 0 ∷ 1 ∷ 2 ∷ 3 ∷ 4 ∷ 5 ∷ 6 ∷ 7 ∷ []
+  pub line-2 : domain-answer (line-of-10 2) 2 2 ≡ domain-variants.Searched Possible 2
+  pub line-2-marks : (old : List ℕ) → marks-after (line-of-10 2) 2 2 old ≡ 1 ∷ 1 ∷ 2 ∷ 1 ∷ 1 ∷ 1 ∷ 2 ∷ 1 ∷ []
+  pub line-2-left : (x y : ℕ) → list-after (line-of-10 2) 2 (x ∷ y ∷ []) ≡ 2 ∷ 6 ∷ []
+  pub line-2-values : (x y : ℕ) → values-after (line-of-10 2) 2 (x ∷ y ∷ []) ≡ 9 ∷ 1 ∷ []
+  pub line-6 : domain-answer (line-of-10 6) 8 8 ≡ domain-variants.Searched Possible 8
+  pub line-6-left : list-after (line-of-10 6) 8 (replicate 8 0) ≡ 0 ∷ 1 ∷ 2 ∷ 3 ∷ 4 ∷ 5 ∷ 6 ∷ 7 ∷ []
+  pub line-6-values : values-after (line-of-10 6) 8 (replicate 8 0) ≡ 3 ∷ 6 ∷ 9 ∷ 2 ∷ 5 ∷ 8 ∷ 1 ∷ 4 ∷ []
   -- 5 is 5 above a multiple of 11, and 6 is 5 below one: a window of 5 is cleared, and a window of 6 lists all
-  pub above-5 : domain-answer (constant-of-11 5 5) 0 ≡ domain-variants.Searched Clear 0
-  pub above-6 : domain-answer (constant-of-11 5 6) 8 ≡ domain-variants.Searched Possible 8
-  pub above-6-left : list-after (constant-of-11 5 6) (replicate 8 0) ≡ 0 ∷ 1 ∷ 2 ∷ 3 ∷ 4 ∷ 5 ∷ 6 ∷ 7 ∷ []
-  pub below-5 : domain-answer (constant-of-11 6 5) 0 ≡ domain-variants.Searched Clear 0
-  pub below-6 : domain-answer (constant-of-11 6 6) 8 ≡ domain-variants.Searched Possible 8
-  pub below-6-left : list-after (constant-of-11 6 6) (replicate 8 0) ≡ 0 ∷ 1 ∷ 2 ∷ 3 ∷ 4 ∷ 5 ∷ 6 ∷ 7 ∷ []
+  pub above-5 : domain-answer (constant-of-11 5 5) 0 0 ≡ domain-variants.Searched Clear 0
+  pub above-6 : domain-answer (constant-of-11 5 6) 8 8 ≡ domain-variants.Searched Possible 8
+  pub above-6-left : list-after (constant-of-11 5 6) 8 (replicate 8 0) ≡ 0 ∷ 1 ∷ 2 ∷ 3 ∷ 4 ∷ 5 ∷ 6 ∷ 7 ∷ []
+  pub above-6-values : values-after (constant-of-11 5 6) 8 (replicate 8 0) ≡ replicate 8 5
+  pub below-5 : domain-answer (constant-of-11 6 5) 0 0 ≡ domain-variants.Searched Clear 0
+  pub below-6 : domain-answer (constant-of-11 6 6) 8 8 ≡ domain-variants.Searched Possible 8
+  pub below-6-left : list-after (constant-of-11 6 6) 8 (replicate 8 0) ≡ 0 ∷ 1 ∷ 2 ∷ 3 ∷ 4 ∷ 5 ∷ 6 ∷ 7 ∷ []
+  pub below-6-values : values-after (constant-of-11 6 6) 8 (replicate 8 0) ≡ replicate 8 6
   -- values 1 and 44 listed; D is 28, the start gains 1, and the window of the covering segment is 2·2 - 1 + 28
-  pub rising : domain-answer rising-arc 2 ≡ domain-variants.Searched Possible 2
-  pub rising-marks : (old : List ℕ) → marks-after rising-arc 2 old ≡ 1 ∷ 1 ∷ 1 ∷ 1 ∷ 2 ∷ 1 ∷ 2 ∷ 1 ∷ []
-  pub rising-left : (x y : ℕ) → list-after rising-arc (x ∷ y ∷ []) ≡ 4 ∷ 6 ∷ []
+  pub rising : domain-answer rising-arc 2 2 ≡ domain-variants.Searched Possible 2
+  pub rising-marks : (old : List ℕ) → marks-after rising-arc 2 2 old ≡ 1 ∷ 1 ∷ 1 ∷ 1 ∷ 2 ∷ 1 ∷ 2 ∷ 1 ∷ []
+  pub rising-left : (x y : ℕ) → list-after rising-arc 2 (x ∷ y ∷ []) ≡ 4 ∷ 6 ∷ []
+  pub rising-values : (x y : ℕ) → values-after rising-arc 2 (x ∷ y ∷ []) ≡ 1 ∷ 44 ∷ []
   pub rising-covered : covering-of rising-arc ≡ segment 45 28 1 8 31
-  pub falling : domain-answer falling-arc 2 ≡ domain-variants.Searched Possible 2
-  pub falling-marks : (old : List ℕ) → marks-after falling-arc 2 old ≡ 1 ∷ 1 ∷ 1 ∷ 1 ∷ 1 ∷ 1 ∷ 2 ∷ 2 ∷ []
-  pub falling-left : (x y : ℕ) → list-after falling-arc (x ∷ y ∷ []) ≡ 6 ∷ 7 ∷ []
+  pub falling : domain-answer falling-arc 2 2 ≡ domain-variants.Searched Possible 2
+  pub falling-marks : (old : List ℕ) → marks-after falling-arc 2 2 old ≡ 1 ∷ 1 ∷ 1 ∷ 1 ∷ 1 ∷ 1 ∷ 2 ∷ 2 ∷ []
+  pub falling-left : (x y : ℕ) → list-after falling-arc 2 (x ∷ y ∷ []) ≡ 6 ∷ 7 ∷ []
+  pub falling-values : (x y : ℕ) → values-after falling-arc 2 (x ∷ y ∷ []) ≡ 44 ∷ 1 ∷ []
   pub falling-covered : covering-of falling-arc ≡ segment 45 37 12 8 31
 
 -- ---- domains of any length (2.2)
@@ -220,33 +235,37 @@ pub record Any-length : Type 0 where
   pub counts-of-12 : tabulate (part-count 12) 8 0 ≡ 2 ∷ 2 ∷ 2 ∷ 2 ∷ 1 ∷ 1 ∷ 1 ∷ 1 ∷ []
   -- job J with 12 arguments, with 3 and with 1, bytes in and bytes out: parts without arguments are marked 3
   pub prints-12 : output-of (bytes "modulus=45\nvalue=44\nslope=31\ncurve=0\ncount=12\nwindow=3\n")
-      ≡ bytes "first=possible\nparts=22111111\nlisted=2\nargument=0\nargument=3\n"
+      ≡ bytes "first=possible\nparts=22111111\nlisted=2\nargument=0 value=44\nargument=3 value=2\n"
   pub prints-3 : output-of (bytes "modulus=45\nvalue=44\nslope=31\ncurve=0\ncount=3\nwindow=3\n")
-      ≡ bytes "first=possible\nparts=21133333\nlisted=1\nargument=0\n"
+      ≡ bytes "first=possible\nparts=21133333\nlisted=1\nargument=0 value=44\n"
   pub prints-1 : output-of (bytes "modulus=45\nvalue=44\nslope=31\ncurve=0\ncount=1\nwindow=3\n")
-      ≡ bytes "first=possible\nparts=23333333\nlisted=1\nargument=0\n"
+      ≡ bytes "first=possible\nparts=23333333\nlisted=1\nargument=0 value=44\n"
   -- in the calls' answers and buffers
-  pub answered-12 : domain-answer (J-of 12) 2 ≡ domain-variants.Searched Possible 2
-  pub left-12 : (x y z : ℕ) → list-after (J-of 12) (x ∷ y ∷ z ∷ []) ≡ 0 ∷ 3 ∷ z ∷ []
-  pub marks-3 : (old : List ℕ) → marks-after (J-of 3) 1 old ≡ 2 ∷ 1 ∷ 1 ∷ 3 ∷ 3 ∷ 3 ∷ 3 ∷ 3 ∷ []
-  pub left-3 : (x y : ℕ) → list-after (J-of 3) (x ∷ y ∷ []) ≡ 0 ∷ y ∷ []
+  pub answered-12 : domain-answer (J-of 12) 2 2 ≡ domain-variants.Searched Possible 2
+  pub left-12 : (x y z : ℕ) → list-after (J-of 12) 3 (x ∷ y ∷ z ∷ []) ≡ 0 ∷ 3 ∷ z ∷ []
+  pub values-12 : (x y z : ℕ) → values-after (J-of 12) 3 (x ∷ y ∷ z ∷ []) ≡ 44 ∷ 2 ∷ z ∷ []
+  pub marks-3 : (old : List ℕ) → marks-after (J-of 3) 1 1 old ≡ 2 ∷ 1 ∷ 1 ∷ 3 ∷ 3 ∷ 3 ∷ 3 ∷ 3 ∷ []
+  pub left-3 : (x y : ℕ) → list-after (J-of 3) 2 (x ∷ y ∷ []) ≡ 0 ∷ y ∷ []
+  pub values-3 : (x y : ℕ) → values-after (J-of 3) 2 (x ∷ y ∷ []) ≡ 44 ∷ y ∷ []
   -- hard arguments in longer and in shorter parts. With two arguments the part 6 of the first domain, and the part 4 of the second, would have the next part's
   -- hard argument and not be clear
-  pub rising : domain-answer rising-12 2 ≡ domain-variants.Searched Possible 2
-  pub rising-marks : (old : List ℕ) → marks-after rising-12 2 old ≡ 2 ∷ 1 ∷ 1 ∷ 1 ∷ 1 ∷ 1 ∷ 1 ∷ 2 ∷ []
-  pub rising-left : (x y : ℕ) → list-after rising-12 (x ∷ y ∷ []) ≡ 0 ∷ 11 ∷ []
-  pub falling : domain-answer falling-12 2 ≡ domain-variants.Searched Possible 2
-  pub falling-marks : (old : List ℕ) → marks-after falling-12 2 old ≡ 2 ∷ 1 ∷ 1 ∷ 1 ∷ 1 ∷ 2 ∷ 1 ∷ 1 ∷ []
-  pub falling-left : (x y : ℕ) → list-after falling-12 (x ∷ y ∷ []) ≡ 0 ∷ 9 ∷ []
+  pub rising : domain-answer rising-12 2 2 ≡ domain-variants.Searched Possible 2
+  pub rising-marks : (old : List ℕ) → marks-after rising-12 2 2 old ≡ 2 ∷ 1 ∷ 1 ∷ 1 ∷ 1 ∷ 1 ∷ 1 ∷ 2 ∷ []
+  pub rising-left : (x y : ℕ) → list-after rising-12 2 (x ∷ y ∷ []) ≡ 0 ∷ 11 ∷ []
+  pub rising-values : (x y : ℕ) → values-after rising-12 2 (x ∷ y ∷ []) ≡ 0 ∷ 0 ∷ []
+  pub falling : domain-answer falling-12 2 2 ≡ domain-variants.Searched Possible 2
+  pub falling-marks : (old : List ℕ) → marks-after falling-12 2 2 old ≡ 2 ∷ 1 ∷ 1 ∷ 1 ∷ 1 ∷ 2 ∷ 1 ∷ 1 ∷ []
+  pub falling-left : (x y : ℕ) → list-after falling-12 2 (x ∷ y ∷ []) ≡ 0 ∷ 9 ∷ []
+  pub falling-values : (x y : ℕ) → values-after falling-12 2 (x ∷ y ∷ []) ≡ 0 ∷ 0 ∷ []
   -- no part of a cleared domain is looked at, whether it has arguments or not
   pub prints-cleared : output-of (bytes "modulus=11\nvalue=5\nslope=0\ncurve=0\ncount=3\nwindow=5\n")
       ≡ bytes "first=cleared\nparts=00000000\nlisted=0\n"
-  pub cleared-3 : domain-answer (constant-of 3 5 5) 0 ≡ domain-variants.Searched Clear 0
-  pub cleared-3-marks : (old : List ℕ) → marks-after (constant-of 3 5 5) 0 old ≡ replicate 8 0
+  pub cleared-3 : domain-answer (constant-of 3 5 5) 0 0 ≡ domain-variants.Searched Clear 0
+  pub cleared-3-marks : (old : List ℕ) → marks-after (constant-of 3 5 5) 0 0 old ≡ replicate 8 0
   -- no argument, and too many
   pub prints-refused : output-of (bytes "modulus=45\nvalue=44\nslope=31\ncurve=0\ncount=0\nwindow=3\n") ≡ bytes "refused=4\n"
-  pub refused-0 : domain-answer (J-of 0) 4096 ≡ domain-variants.Refused 4
-  pub refused-more : domain-answer (J-of 1048577) 4096 ≡ domain-variants.Refused 4
+  pub refused-0 : domain-answer (J-of 0) 4096 4096 ≡ domain-variants.Refused 4
+  pub refused-more : domain-answer (J-of 1048577) 4096 4096 ≡ domain-variants.Refused 4
 
 -- ---- windows from 1 (2.3)
 
@@ -263,29 +282,58 @@ pub record Windows-from-1 : Type 0 where
   pub regular-none : regular-answer 45 14 44 0 0 ≡ regular-variants.Refused 4
   pub fine-none : fine-answer 45 14 44 0 0 ≡ fine-variants.Refused 4
   -- scans: M lists all, M + 1 is 5; 4 comes before 5
-  pub scan-M : scan-answer 45 14 44 3 45 3 ≡ scan-variants.Listed 3
-  pub scan-M-left : (x y z : ℕ) → scan-list-after 45 14 44 3 45 (x ∷ y ∷ z ∷ []) ≡ 0 ∷ 1 ∷ 2 ∷ []
-  pub scan-above : (places : ℕ) → scan-answer 45 14 44 16 46 places ≡ scan-variants.Refused 5
-  pub scan-none : (places : ℕ) → scan-answer 45 14 44 0 0 places ≡ scan-variants.Refused 4
+  pub scan-M : scan-answer 45 14 44 3 45 3 3 ≡ scan-variants.Listed 3
+  pub scan-M-left : (x y z : ℕ) → scan-list-after 45 14 44 3 45 3 (x ∷ y ∷ z ∷ []) ≡ 0 ∷ 1 ∷ 2 ∷ []
+  pub scan-M-values : (x y z : ℕ) → scan-values-after 45 14 44 3 45 3 (x ∷ y ∷ z ∷ []) ≡ 44 ∷ 30 ∷ 16 ∷ []
+  pub scan-above : (m n : ℕ) → scan-answer 45 14 44 16 46 m n ≡ scan-variants.Refused 5
+  pub scan-none : (m n : ℕ) → scan-answer 45 14 44 0 0 m n ≡ scan-variants.Refused 4
   -- job J with windows of 0, 1 and M + 1, and with 3 arguments and a window of M, bytes in and bytes out
   pub prints-0 : output-of (bytes "modulus=45\nvalue=44\nslope=31\ncurve=0\ncount=16\nwindow=0\n") ≡ bytes "refused=5\n"
   pub prints-1 : output-of (bytes "modulus=45\nvalue=44\nslope=31\ncurve=0\ncount=16\nwindow=1\n")
       ≡ bytes "first=cleared\nparts=00000000\nlisted=0\n"
   pub prints-above : output-of (bytes "modulus=45\nvalue=44\nslope=31\ncurve=0\ncount=16\nwindow=46\n") ≡ bytes "refused=5\n"
   pub prints-M : output-of (bytes "modulus=45\nvalue=44\nslope=31\ncurve=0\ncount=3\nwindow=45\n")
-      ≡ bytes "first=possible\nparts=22233333\nlisted=3\nargument=0\nargument=1\nargument=2\n"
+      ≡ bytes "first=possible\nparts=22233333\nlisted=3\nargument=0 value=44\nargument=1 value=30\nargument=2 value=16\n"
   -- in the call's answers and buffers
-  pub domain-0 : (places : ℕ) → domain-answer (J-with 16 (pos 0) 0) places ≡ domain-variants.Refused 5
-  pub marks-0 : (places : ℕ) (old : List ℕ) → marks-after (J-with 16 (pos 0) 0) places old ≡ old
-  pub left-0 : (old : List ℕ) → list-after (J-with 16 (pos 0) 0) old ≡ old
-  pub domain-1 : domain-answer (J-with 16 (pos 0) 1) 0 ≡ domain-variants.Searched Clear 0
-  pub domain-M : domain-answer (J-with 3 (pos 0) 45) 3 ≡ domain-variants.Searched Possible 3
-  pub domain-M-left : (x y z : ℕ) → list-after (J-with 3 (pos 0) 45) (x ∷ y ∷ z ∷ []) ≡ 0 ∷ 1 ∷ 2 ∷ []
+  pub domain-0 : (m n : ℕ) → domain-answer (J-with 16 (pos 0) 0) m n ≡ domain-variants.Refused 5
+  pub marks-0 : (m n : ℕ) (old : List ℕ) → marks-after (J-with 16 (pos 0) 0) m n old ≡ old
+  pub left-0 : (n : ℕ) (old : List ℕ) → list-after (J-with 16 (pos 0) 0) n old ≡ old
+  pub values-0 : (m : ℕ) (old : List ℕ) → values-after (J-with 16 (pos 0) 0) m old ≡ old
+  pub domain-1 : domain-answer (J-with 16 (pos 0) 1) 0 0 ≡ domain-variants.Searched Clear 0
+  pub domain-M : domain-answer (J-with 3 (pos 0) 45) 3 3 ≡ domain-variants.Searched Possible 3
+  pub domain-M-left : (x y z : ℕ) → list-after (J-with 3 (pos 0) 45) 3 (x ∷ y ∷ z ∷ []) ≡ 0 ∷ 1 ∷ 2 ∷ []
+  pub domain-M-values : (x y z : ℕ) → values-after (J-with 3 (pos 0) 45) 3 (x ∷ y ∷ z ∷ []) ≡ 44 ∷ 30 ∷ 16 ∷ []
   -- 4 comes before 5, and 5 before 6, and before 7 where there is no place
-  pub none-and-0 : (places : ℕ) → domain-answer (J-with 0 (pos 0) 0) places ≡ domain-variants.Refused 4
-  pub curve-and-0 : (places : ℕ) → domain-answer (J-with 16 (pos 1048577) 0) places ≡ domain-variants.Refused 5
-  pub curve-and-above : domain-answer (J-with 16 (pos 1048577) 46) 0 ≡ domain-variants.Refused 5
-  pub curve-alone : (places : ℕ) → domain-answer (J-with 16 (pos 1048577) 1) places ≡ domain-variants.Refused 6
+  pub none-and-0 : (m n : ℕ) → domain-answer (J-with 0 (pos 0) 0) m n ≡ domain-variants.Refused 4
+  pub curve-and-0 : (m n : ℕ) → domain-answer (J-with 16 (pos 1048577) 0) m n ≡ domain-variants.Refused 5
+  pub curve-and-above : domain-answer (J-with 16 (pos 1048577) 46) 0 0 ≡ domain-variants.Refused 5
+  pub curve-alone : (m n : ℕ) → domain-answer (J-with 16 (pos 1048577) 1) m n ≡ domain-variants.Refused 6
+
+-- ---- values beside the arguments (2.6)
+
+pub record Values-beside-arguments : Type 0 where
+  -- 7 where either column has too few places, and then both stay as they were, whatever their lengths
+  pub scan-list-short : scan-answer 45 14 44 16 6 1 2 ≡ scan-variants.Refused 7
+  pub scan-list-short-left : (x : ℕ) → scan-list-after 45 14 44 16 6 2 (x ∷ []) ≡ x ∷ []
+  pub scan-list-short-values : (x y : ℕ) → scan-values-after 45 14 44 16 6 1 (x ∷ y ∷ []) ≡ x ∷ y ∷ []
+  pub scan-values-short : scan-answer 45 14 44 16 6 2 1 ≡ scan-variants.Refused 7
+  pub scan-values-short-left : (x y : ℕ) → scan-list-after 45 14 44 16 6 1 (x ∷ y ∷ []) ≡ x ∷ y ∷ []
+  pub scan-values-short-values : (x : ℕ) → scan-values-after 45 14 44 16 6 2 (x ∷ []) ≡ x ∷ []
+  pub domain-list-short : domain-answer J 1 2 ≡ domain-variants.Refused 7
+  pub domain-list-short-marks : (old : List ℕ) → marks-after J 1 2 old ≡ old
+  pub domain-list-short-left : (x : ℕ) → list-after J 2 (x ∷ []) ≡ x ∷ []
+  pub domain-list-short-values : (x y : ℕ) → values-after J 1 (x ∷ y ∷ []) ≡ x ∷ y ∷ []
+  pub domain-values-short : domain-answer J 2 1 ≡ domain-variants.Refused 7
+  pub domain-values-short-marks : (old : List ℕ) → marks-after J 2 1 old ≡ old
+  pub domain-values-short-left : (x y : ℕ) → list-after J 1 (x ∷ y ∷ []) ≡ x ∷ y ∷ []
+  pub domain-values-short-values : (x : ℕ) → values-after J 2 (x ∷ []) ≡ x ∷ []
+  -- columns of other lengths with places enough in both
+  pub scan-longer-list : (x y z : ℕ) → scan-list-after 45 14 44 16 6 2 (x ∷ y ∷ z ∷ []) ≡ 3 ∷ 6 ∷ z ∷ []
+  pub scan-longer-values : (x y z : ℕ) → scan-values-after 45 14 44 16 6 2 (x ∷ y ∷ z ∷ []) ≡ 2 ∷ 5 ∷ z ∷ []
+  pub domain-longer-list : (x y z : ℕ) → list-after J 2 (x ∷ y ∷ z ∷ []) ≡ 0 ∷ 3 ∷ z ∷ []
+  pub domain-longer-values : (x y z : ℕ) → values-after J 2 (x ∷ y ∷ z ∷ []) ≡ 44 ∷ 2 ∷ z ∷ []
+  -- a cleared domain has no value
+  pub cleared-values : (x : ℕ) → values-after (J-with 16 (pos 0) 1) 0 (x ∷ []) ≡ x ∷ []
 
 -- ---- digits of an argument, and modular division (2.4)
 
@@ -372,4 +420,5 @@ pub record Settled : Type 0 where
   pub both-sides : Both-sides
   pub any-length : Any-length
   pub windows-from-1 : Windows-from-1
+  pub values-beside-arguments : Values-beside-arguments
   pub digits-and-division : Digits-and-division

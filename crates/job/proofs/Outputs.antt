@@ -8,20 +8,21 @@ use lib.ListN.{length, take, replicate, length-append, length-replicate, length-
 use lib.Seq.{sets}
 use Rattle.numbers.specs.Lists.{overwrite-front, place-after}
 use Rattle.numbers.specs.Promise.{Enumerates}
+use Rattle.numbers.proofs.Lists.{member-place}
 use Rattle.numbers.proofs.Buffers.{front-taken, clip-front}
 use Rattle.numbers.proofs.Checklists.{refused-at-most}
 use Rattle.segment.specs.declared.Verdict.{Verdict}
 use Rattle.segment.specs.declared.Verdict.the-variants.{Clear, Possible}
-use Rattle.domain.specs.Domain.{hard-arguments}
-use Rattle.domain.specs.Answer.{domain-answer, marks-of, marks-after, list-after}
-use Rattle.domain.specs.Promise.{Hard-in-numbers, Domain-correct, Marks-correct, Asked, Refused-for}
+use Rattle.domain.specs.Domain.{hard-arguments, hard-values}
+use Rattle.domain.specs.Answer.{domain-answer, marks-of, marks-after, list-after, values-after}
+use Rattle.domain.specs.Promise.{Hard-in-numbers, Values-beside, Domain-correct, Marks-correct, Asked, Refused-for}
 use Rattle.domain.specs.declared.Domain.{Domain}
 use Rattle.domain.specs.declared.DomainAnswer.{DomainAnswer}
 use Rattle.domain.specs.declared.DomainAnswer.the-variants.{Refused, Searched}
 use Rattle.domain.proofs.Promises.{promised}
 use Rattle.text.proofs.Promises as text
 use Rattle.job.specs.Reading.{reading, reading-refusal}
-use Rattle.job.specs.Output.{places, longest, answer-of, verdict-name, Small-marks, argument-lines, refused, report, printed-for, printed, job-answer, job-marks, job-list, output-with, output-of}
+use Rattle.job.specs.Output.{places, longest, answer-of, verdict-name, Small-marks, argument-lines, refused, report, printed-for, printed, job-answer, job-marks, job-list, job-values, output-with, output-of}
 use Rattle.job.specs.declared.Reading.{Reading}
 use Rattle.job.specs.declared.Reading.the-variants.{Read, Malformed}
 
@@ -37,50 +38,66 @@ unfolding verdict-name
 name-short Clear = omega arith
 name-short Possible = omega arith
 
--- arguments of up to seven digits take up to 17 bytes each
-lines-short : (xs : List ℕ) → ((x : ℕ) → List·Memᴰ x xs → x < 10 ^ 7) → length (argument-lines xs) ≤ 17 * length xs
+-- arguments of up to seven digits with values of up to nineteen take up to 43 bytes each
+lines-short : (xs vs : List ℕ) → ((x : ℕ) → List·Memᴰ x xs → x < 10 ^ 7) → ((v : ℕ) → List·Memᴰ v vs → v < 10 ^ 19)
+    → length (argument-lines xs vs) ≤ 43 * length xs
 unfolding argument-lines
-lines-short [] h = omega arith
-lines-short (x ∷ xs) h =
+lines-short [] vs h k = omega arith
+lines-short (x ∷ xs) [] h k = omega arith
+lines-short (x ∷ xs) (v ∷ vs) h k =
     simp length-append
-    (omega (arith, text.promised .decimals x .few 6 (h x (List·Memᴰ·head refl)), lines-short xs (λ y m. h y (List·Memᴰ·tail m))))
+    (omega (
+      arith,
+      text.promised .decimals x .few 6 (h x (List·Memᴰ·head refl)),
+      text.promised .decimals v .few 18 (k v (List·Memᴰ·head refl)),
+      lines-short xs vs (λ y m. h y (List·Memᴰ·tail m)) (λ y m. k y (List·Memᴰ·tail m)),
+    ))
 
--- what is reported of up to 4,096 arguments below 2^20
-report-short : (v : Verdict) (marks xs : List ℕ) → length marks ≡ 8 → length xs ≤ places → ((x : ℕ) → List·Memᴰ x xs → x < 1048576)
-    → length (report v marks xs) ≤ longest
+-- what is reported of up to 4,096 arguments below 2^20, with values below 2^62
+report-short : (v : Verdict) (marks xs vs : List ℕ) → length marks ≡ 8 → length xs ≤ places → ((x : ℕ) → List·Memᴰ x xs → x < 1048576)
+    → ((v : ℕ) → List·Memᴰ v vs → v < 2 ^ 62) → length (report v marks xs vs) ≤ longest
 unfolding report
-report-short v marks xs eight few small =
+report-short v marks xs vs eight few small below =
     simp (length-append, length-map)
-    (omega (arith, name-short v, text.promised .decimals (length xs) .few 3 (omega arith), lines-short xs (λ y m. omega (arith, small y m))))
+    (omega (
+      arith,
+      name-short v,
+      text.promised .decimals (length xs) .few 3 (omega arith),
+      lines-short xs vs (λ y m. omega (arith, small y m)) (λ y m. omega (arith, below y m)),
+    ))
 
 -- ---- what the search hands over
 
--- the list then
+-- the list then, and the values
 abbrev list-of : Domain → List ℕ
-list-of d = list-after d (replicate places 0)
+list-of d = list-after d places (replicate places 0)
+
+abbrev values-of : Domain → List ℕ
+values-of d = values-after d places (replicate places 0)
 
 module _ (d : Domain) where
-  correct : Domain-correct d (replicate 8 0) (replicate places 0) (answer-of d) (marks-after d places (replicate 8 0)) (list-of d)
+  correct : Domain-correct d (replicate 8 0) (replicate places 0) (replicate places 0) (answer-of d) (marks-after d places places (replicate 8 0)) (list-of d) (values-of d)
   correct =
-      subst (λ (n : ℕ). Domain-correct d (replicate 8 0) (replicate places 0) (domain-answer d n) (marks-after d n (replicate 8 0)) (list-of d))
-      (length-replicate {A = ℕ} places 0) (promised .domains d (replicate 8 0) (replicate places 0))
+      subst (λ (n : ℕ). Domain-correct d (replicate 8 0) (replicate places 0) (replicate places 0) (domain-answer d n n) (marks-after d n n (replicate 8 0))
+      (list-after d n (replicate places 0)) (values-after d n (replicate places 0)))
+      (length-replicate {A = ℕ} places 0) (promised .domains d (replicate 8 0) (replicate places 0) (replicate places 0))
 
   -- refused as the domain search refuses, by a number up to 7
-  pub search-refuses : (n : ℕ) → (answer-of d ≡ Refused n) ↔ Refused-for d places n
-  search-refuses n = subst (λ (k : ℕ). (answer-of d ≡ Refused n) ↔ Refused-for d k n) (length-replicate {A = ℕ} places 0) (correct .refused n)
+  pub search-refuses : (n : ℕ) → (answer-of d ≡ Refused n) ↔ Refused-for d places places n
+  search-refuses n = subst (λ (k : ℕ). (answer-of d ≡ Refused n) ↔ Refused-for d k k n) (length-replicate {A = ℕ} places 0) (correct .refused n)
 
   pub number-small : {n : ℕ} → answer-of d ≡ Refused n → n ≤ 7
-  number-small {n} e = refused-at-most 7 (Asked d places) (omega arith) (search-refuses n .0 e)
+  number-small {n} e = refused-at-most 7 (Asked d places places) (omega arith) (search-refuses n .0 e)
 
   module _ {first : Verdict} {listed : ℕ} (e : answer-of d ≡ Searched first listed) where
     few : length (hard-arguments d) ≤ places
     few = omega (arith, correct .searched first listed .0 e .1, length-replicate {A = ℕ} places 0)
 
     listed-is : listed ≡ length (hard-arguments d)
-    listed-is = correct .searched first listed .0 e .3
+    listed-is = correct .searched first listed .0 e .4
 
-    -- the marks, and the hard arguments at the front of the list
-    marks-are : marks-after d places (replicate 8 0) ≡ marks-of d
+    -- the marks, and the hard arguments and their values at the fronts of list and values
+    marks-are : marks-after d places places (replicate 8 0) ≡ marks-of d
     marks-are = correct .written first listed e .0
 
     list-long : listed ≤ length (list-of d)
@@ -92,16 +109,37 @@ module _ (d : Domain) where
     pub hard-listed : Enumerates (Hard-in-numbers d) listed (hard-arguments d)
     hard-listed = subst (Enumerates (Hard-in-numbers d) listed) hard-in-front (correct .hard first listed e)
 
+    pub values-listed : Values-beside d (hard-arguments d) (hard-values d)
+    values-listed = promised .hard-values-are d (correct .searched first listed .0 e .0)
+
+    values-long : listed ≤ length (values-of d)
+    values-long = let b = correct .values-buffer first listed e in omega (arith, b .room, b .places, listed-is, values-listed .as-many)
+
+    values-in-front : take listed (values-of d) ≡ hard-values d
+    values-in-front =
+        ap₂ take (listed-is ∙ sym (values-listed .as-many)) (correct .written first listed e .2) ∙ front-taken (hard-values d) (replicate places 0)
+
+    -- every value is below the modulus
+    value-below : (v : ℕ) → List·Memᴰ v (hard-values d) → v < 2 ^ 62
+    value-below v m =
+        let at = member-place 0 v (hard-values d) m in
+        omega (
+          arith,
+          at .2,
+          values-listed .each (at .0) (omega (arith, at .1, values-listed .as-many)) .0,
+          correct .searched first listed .0 e .0 .unit-within .1,
+        )
+
     pub marks-correct : Marks-correct d first (marks-of d)
     marks-correct = subst (Marks-correct d first) marks-are (correct .marked first listed e)
 
     marks-small : Small-marks (marks-of d)
     marks-small i = omega (arith, marks-correct .at-most-3 i)
 
-    report-fits : length (report first (marks-of d) (hard-arguments d)) ≤ longest
+    report-fits : length (report first (marks-of d) (hard-arguments d) (hard-values d)) ≤ longest
     report-fits =
-        report-short first (marks-of d) (hard-arguments d) (marks-correct .eight) few
-        (λ x m. omega (arith, hard-listed .exactly x .0 m .0, correct .searched first listed .0 e .0 .count-high))
+        report-short first (marks-of d) (hard-arguments d) (hard-values d) (marks-correct .eight) few
+        (λ x m. omega (arith, hard-listed .exactly x .0 m .0, correct .searched first listed .0 e .0 .count-high)) value-below
 
 -- ---- the output of a job
 
@@ -110,30 +148,42 @@ unfolding printed printed-for
 printed-refused d e = rw e
 
 pub printed-report : (d : Domain) {first : Verdict} {listed : ℕ} → answer-of d ≡ Searched first listed
-    → printed d ≡ report first (marks-of d) (hard-arguments d)
+    → printed d ≡ report first (marks-of d) (hard-arguments d) (hard-values d)
 unfolding printed printed-for
 printed-report d e = rw e
 
 -- where the search refuses, the line of the refusal is printed
-pub output-refused : (job : Reading) {n : ℕ} → job-answer job places ≡ Refused n → output-with job ≡ refused n
+pub output-refused : (job : Reading) {n : ℕ} → job-answer job places places ≡ Refused n → output-with job ≡ refused n
 unfolding job-answer output-with
 output-refused (Read d) e = printed-refused d e
 output-refused Malformed {n} e = let same : reading-refusal Malformed ≡ n = cc in ap refused same
 
--- where it does not, what is printed is in the marks and at the front of the list
-pub record Reported (job : Reading) (first : Verdict) (listed : ℕ) (marks list : List ℕ) : Type 0 where
+-- where it does not, what is printed is in the marks and at the fronts of list and values
+pub record Reported (job : Reading) (first : Verdict) (listed : ℕ) (marks list values : List ℕ) : Type 0 where
   pub eight : length marks ≡ 8
   pub small : Small-marks marks
   pub within : listed ≤ length list
-  pub output : output-with job ≡ report first marks (take listed list)
+  pub values-within : listed ≤ length values
+  pub output : output-with job ≡ report first marks (take listed list) (take listed values)
 
-pub output-reported : (job : Reading) {first : Verdict} {listed : ℕ} → job-answer job places ≡ Searched first listed
-    → Reported job first listed (job-marks job places (replicate 8 0)) (job-list job (replicate places 0))
-unfolding job-answer job-marks job-list output-with
+pub output-reported : (job : Reading) {first : Verdict} {listed : ℕ} → job-answer job places places ≡ Searched first listed
+    → Reported job first listed (job-marks job places places (replicate 8 0)) (job-list job places (replicate places 0)) (job-values job places (replicate places 0))
+unfolding job-answer job-marks job-list job-values output-with
 output-reported (Read d) e =
     rw (marks-are d e)
-    (record { eight = marks-correct d e .eight; small = marks-small d e; within = list-long d e; output = printed-report d e ∙ rw (hard-in-front d e) })
+    (record {
+      eight = marks-correct d e .eight;
+      small = marks-small d e;
+      within = list-long d e;
+      values-within = values-long d e;
+      output = printed-report d e ∙ rw (hard-in-front d e, values-in-front d e);
+    })
 output-reported Malformed e = let z : _≡_ {A = ℕ} 0 1 = cc in absurd (omega arith)
+
+-- what is printed, by what the search left
+pub output-from : {job : Reading} {first : Verdict} {listed : ℕ} {marks list values marks′ list′ values′ : List ℕ} → Reported job first listed marks list values
+    → marks′ ≡ marks → list′ ≡ list → values′ ≡ values → output-with job ≡ report first marks′ (take listed list′) (take listed values′)
+output-from r e f g = rw (e, f, g) (r .output)
 
 -- by the two cases of an answer
 pub by-answer : {P : Type 0} (a : DomainAnswer) → ((n : ℕ) → a ≡ Refused n → P) → ((v : Verdict) (n : ℕ) → a ≡ Searched v n → P) → P

@@ -14,7 +14,7 @@ use Rattle.job.specs.Output.{answer-of, verdict-name, argument-lines, re
 use Rattle.job.specs.Promise.{Text-correct, Output-correct, Promised}
 use Rattle.job.specs.declared.Reading.{Reading}
 use Rattle.job.specs.declared.Reading.the-variants.{Read, Malformed}
-use Rattle.job.proofs.Outputs.{search-refuses, number-small, marks-correct, hard-listed, printed-refused, printed-report, by-answer, output-short}
+use Rattle.job.proofs.Outputs.{search-refuses, number-small, marks-correct, hard-listed, values-listed, printed-refused, printed-report, by-answer, output-short}
 use Rattle.job.proofs.Renderings.{reading-correct}
 
 text-correct : Text-correct
@@ -23,12 +23,12 @@ text-correct =
     record {
       lines = λ M c0 c1 s N w. refl;
       range = λ M c0 c1 s N w. (λ r. omega arith, λ h. omega arith);
-      report-is = λ first marks arguments. refl;
+      report-is = λ first marks arguments values. refl;
       names = (refl, refl);
       no-mark = refl;
       mark-more = λ m ms. refl;
       no-line = refl;
-      line-more = λ x xs. refl;
+      line-more = λ x v xs vs. refl;
       refused-is = λ n. refl;
     }
 
@@ -73,10 +73,12 @@ output-correct =
       refuses = search-refuses;
       job-refused = λ d n h e. output-is d h ∙ printed-refused d e;
       without-window = λ d e low high slope value some most curve.
-          output-is d (omega arith) ∙ printed-refused d (domain.promised .without-window d e .refused 4096 low high slope value some most) ∙ five-printed;
+          output-is d (omega arith) ∙ printed-refused d (domain.promised .without-window d e .refused 4096 4096 low high slope value some most) ∙ five-printed;
       job-reported = λ d first listed h e. output-is d h ∙ printed-report d e;
       marked = λ d first listed e. marks-correct d e;
       hard = λ d first listed e. hard-listed d e;
+      values = λ d first listed e. values-listed d e;
+      longest-is = refl;
       fits = λ t. output-short (reading t);
       buffer = λ t old e. front-correct (output-with (reading t)) old (omega (arith, e, output-short (reading t)));
       front-enough = λ t. ap output-with (reading-correct .front-decides t 4096 (omega arith));

@@ -10,14 +10,14 @@ use Rattle.numbers.specs.Lists.{overwrite-front}
 use Rattle.numbers.specs.Promise.{Enumerates, Buffer-correct}
 use Rattle.segment.specs.declared.Verdict.{Verdict}
 use Rattle.segment.specs.declared.Verdict.the-variants.{Clear, Possible}
-use Rattle.domain.specs.Domain.{hard-arguments}
+use Rattle.domain.specs.Domain.{hard-arguments, hard-values}
 use Rattle.domain.specs.Answer.{domain-answer, marks-of}
-use Rattle.domain.specs.Promise.{Hard-in-numbers, Refused-for, Marks-correct}
+use Rattle.domain.specs.Promise.{Hard-in-numbers, Values-beside, Refused-for, Marks-correct}
 use Rattle.domain.specs.declared.Domain.{Domain}
 use Rattle.domain.specs.declared.DomainAnswer.the-variants.{Refused, Searched}
 use Rattle.text.specs.Text.{bytes, decimal, signed-decimal}
 use Rattle.job.specs.Reading.{rendering, In-range, reading, reading-refusal}
-use Rattle.job.specs.Output.{answer-of, verdict-name, mark-digits, argument-lines, refused, report, output-of}
+use Rattle.job.specs.Output.{longest, answer-of, verdict-name, mark-digits, argument-lines, refused, report, output-of}
 use Rattle.job.specs.declared.Reading.the-variants.{Read, Malformed}
 
 -- ---- reading
@@ -43,14 +43,15 @@ pub record Text-correct : Type 0 where
   pub range : (M c0 c1 : ℕ) (s : ℤ) (N w : ℕ)
       → In-range (record { modulus = M; value = c0; slope = c1; curve = s; count = N; window = w })
       ↔ ((M < 2 ^ 64) × (c0 < 2 ^ 64) × (c1 < 2 ^ 64) × (natAbs s < 2 ^ 63) × (N < 2 ^ 64) × (w < 2 ^ 64))
-  pub report-is : (first : Verdict) (marks arguments : List ℕ)
-      → report first marks arguments
-      ≡ bytes "first=" ++ (verdict-name first ++ (bytes "\nparts=" ++ (mark-digits marks ++ (bytes "\nlisted=" ++ (decimal (length arguments) ++ (bytes "\n" ++ argument-lines arguments))))))
+  pub report-is : (first : Verdict) (marks arguments values : List ℕ)
+      → report first marks arguments values
+      ≡ bytes "first=" ++ (verdict-name first ++ (bytes "\nparts=" ++ (mark-digits marks ++ (bytes "\nlisted=" ++ (decimal (length arguments) ++ (bytes "\n" ++ argument-lines arguments values))))))
   pub names : (verdict-name Clear ≡ bytes "cleared") × (verdict-name Possible ≡ bytes "possible")
   pub no-mark : mark-digits [] ≡ []
   pub mark-more : (m : ℕ) (ms : List ℕ) → mark-digits (m ∷ ms) ≡ (48 + m) ∷ mark-digits ms
-  pub no-line : argument-lines [] ≡ []
-  pub line-more : (x : ℕ) (xs : List ℕ) → argument-lines (x ∷ xs) ≡ bytes "argument=" ++ (decimal x ++ (bytes "\n" ++ argument-lines xs))
+  pub no-line : argument-lines [] [] ≡ []
+  pub line-more : (x v : ℕ) (xs vs : List ℕ)
+      → argument-lines (x ∷ xs) (v ∷ vs) ≡ bytes "argument=" ++ (decimal x ++ (bytes " value=" ++ (decimal v ++ (bytes "\n" ++ argument-lines xs vs))))
   pub refused-is : (n : ℕ) → refused n ≡ bytes "refused=" ++ (decimal n ++ bytes "\n")
 
 -- ---- printing
@@ -58,24 +59,26 @@ pub record Text-correct : Type 0 where
 pub record Output-correct : Type 0 where
   -- a malformed text prints the single line of refusal 8, and no job does
   pub malformed : (t : List ℕ) → (reading t ≡ Malformed) ↔ (output-of t ≡ bytes "refused=8\n")
-  -- a job is asked of the domain search with 4,096 places
-  pub asked : (d : Domain) → answer-of d ≡ domain-answer d 4096
+  -- a job is asked of the domain search with 4,096 places for arguments and as many for values
+  pub asked : (d : Domain) → answer-of d ≡ domain-answer d 4096 4096
   -- a job that is refused, which is as the domain search refuses it, prints its number alone
-  pub refuses : (d : Domain) (n : ℕ) → (answer-of d ≡ Refused n) ↔ Refused-for d 4096 n
+  pub refuses : (d : Domain) (n : ℕ) → (answer-of d ≡ Refused n) ↔ Refused-for d 4096 4096 n
   pub job-refused : (d : Domain) (n : ℕ) → In-range d → answer-of d ≡ Refused n → output-of (rendering d) ≡ refused n
   -- a job with a window of 0 that nothing asked before the window refuses prints the single line of refusal 5
   pub without-window : (d : Domain) → d .window ≡ 0 → 2 ≤ d .modulus → d .modulus ≤ 2 ^ 62 → d .slope < d .modulus → d .value < d .modulus
       → 1 ≤ d .count → d .count ≤ 1048576 → natAbs (d .curve) < 2 ^ 63 → output-of (rendering d) ≡ bytes "refused=5\n"
-  -- a job that is not refused prints phase 1's verdict, the marks, how many arguments are listed, and a line for each hard argument: these are
-  -- exactly the hard ones in the job's own numbers, each once and ascending
+  -- a job that is not refused prints phase 1's verdict, the marks, how many arguments are listed, and a line for each hard argument and its value: the arguments are
+  -- exactly the hard ones in the job's own numbers, each once and ascending, and each value is that of the argument in its line
   pub job-reported : (d : Domain) (first : Verdict) (listed : ℕ) → In-range d → answer-of d ≡ Searched first listed
-      → output-of (rendering d) ≡ report first (marks-of d) (hard-arguments d)
+      → output-of (rendering d) ≡ report first (marks-of d) (hard-arguments d) (hard-values d)
   pub marked : (d : Domain) (first : Verdict) (listed : ℕ) → answer-of d ≡ Searched first listed → Marks-correct d first (marks-of d)
   pub hard : (d : Domain) (first : Verdict) (listed : ℕ) → answer-of d ≡ Searched first listed
       → Enumerates (Hard-in-numbers d) listed (hard-arguments d)
-  -- what is printed fits a buffer of 69,674 bytes; over the front of one it leaves every place after it as it was
-  pub fits : (t : List ℕ) → length (output-of t) ≤ 69674
-  pub buffer : (t old : List ℕ) → length old ≡ 69674 → Buffer-correct (output-of t) old (overwrite-front (output-of t) old)
+  pub values : (d : Domain) (first : Verdict) (listed : ℕ) → answer-of d ≡ Searched first listed → Values-beside d (hard-arguments d) (hard-values d)
+  -- what is printed fits a buffer of 176,170 bytes, which is what the code has; over the front of one it leaves every place after it as it was
+  pub longest-is : longest ≡ 176170
+  pub fits : (t : List ℕ) → length (output-of t) ≤ 176170
+  pub buffer : (t old : List ℕ) → length old ≡ 176170 → Buffer-correct (output-of t) old (overwrite-front (output-of t) old)
   -- the program need not read more than 4,096 bytes
   pub front-enough : (t : List ℕ) → output-of (take 4096 t) ≡ output-of t
 

@@ -7,7 +7,7 @@ ghost use lib.ListN.{length};
 ghost use lib.Seq.{sets};
 ghost use Rattle.numbers.specs.Lists.{overwrite-front, place-after};
 ghost use Rattle.job.specs.Reading.{rest-from, reading};
-ghost use Rattle.job.specs.Output.{job-answer, job-marks, job-list, output-with, output-of};
+ghost use Rattle.job.specs.Output.{job-answer, job-marks, job-list, job-values, output-with, output-of, longest};
 
 mod report;
 
@@ -15,8 +15,8 @@ use domain::Domain;
 use report::put_refusal;
 use report::put_report;
 
-// The longest answer: 4,096 arguments of seven digits.
-pub const LONGEST: usize = 69674;
+// The longest answer: 4,096 arguments of seven digits with values of nineteen.
+pub const LONGEST: usize = 176170;
 
 // A text is that of a job, or it is malformed.
 pub enum Reading {
@@ -69,10 +69,11 @@ fn read_rest(text: &[u8], at: usize, modulus: u64, value: u64, slope: u64) -> Re
 }
 
 // Runs the job of a text and prints the answer from the first place of the buffer on; the places after it are left as they were. Tells how
-// many bytes it printed. The buffer is as large as the longest answer, of 4,096 arguments.
+// many bytes it printed. The buffer is as large as the longest answer, of 4,096 arguments and their values.
 pub fn run_job(text: &[u8], out: &mut [u8; LONGEST]) -> usize
     ensures { λ r. ⌜ r ≡ length (output-of (now (text .entry))) ⌝ }
     ensures { λ r. ⌜ now (out .exit) ≡ overwrite-front (output-of (now (text .entry))) (now (out .entry)) ⌝ }
+    ensures { λ r. ⌜ length (now (out .entry)) ≡ longest ⌝ }
 {
     print_answer(read_job(text), out)
 }
@@ -84,22 +85,33 @@ fn print_answer(job: Reading, out: &mut [u8]) -> usize
 {
     let mut marks = [0u8; 8];
     let mut list = [0u32; 4096];
-    match search(job, &mut marks, &mut list) {
+    let mut values = [0u64; 4096];
+    match search(job, &mut marks, &mut list, &mut values) {
         domain::DomainAnswer::Refused(number) => put_refusal(number as u64, out),
-        domain::DomainAnswer::Searched { first, listed } => {
-            put_report(first, &marks, &list[..listed as usize], out)
-        }
+        domain::DomainAnswer::Searched { first, listed } => put_report(
+            first,
+            &marks,
+            &list[..listed as usize],
+            &values[..listed as usize],
+            out,
+        ),
     }
 }
 
-// Searches the domain of a job. A text that is none is refused by 8, and leaves marks and list as they were.
-fn search(job: Reading, marks: &mut [u8; 8], list: &mut [u32]) -> domain::DomainAnswer
-    ensures { λ r. ⌜ r ≡ job-answer job (length (now (list .entry))) ⌝ }
-    ensures { λ r. ⌜ now (marks .exit) ≡ job-marks job (length (now (list .entry))) (now (marks .entry)) ⌝ }
-    ensures { λ r. ⌜ now (list .exit) ≡ job-list job (now (list .entry)) ⌝ }
+// Searches the domain of a job. A text that is none is refused by 8, and leaves marks, list and values as they were.
+fn search(
+    job: Reading,
+    marks: &mut [u8; 8],
+    list: &mut [u32],
+    values: &mut [u64],
+) -> domain::DomainAnswer
+    ensures { λ r. ⌜ r ≡ job-answer job (length (now (list .entry))) (length (now (values .entry))) ⌝ }
+    ensures { λ r. ⌜ now (marks .exit) ≡ job-marks job (length (now (list .entry))) (length (now (values .entry))) (now (marks .entry)) ⌝ }
+    ensures { λ r. ⌜ now (list .exit) ≡ job-list job (length (now (values .entry))) (now (list .entry)) ⌝ }
+    ensures { λ r. ⌜ now (values .exit) ≡ job-values job (length (now (list .entry))) (now (values .entry)) ⌝ }
 {
     match job {
-        Reading::Read(domain) => domain::search_domain(domain, marks, list),
+        Reading::Read(domain) => domain::search_domain(domain, marks, list, values),
         Reading::Malformed => domain::DomainAnswer::Refused(8),
     }
 }

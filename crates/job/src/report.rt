@@ -1,7 +1,8 @@
-// What is printed of a job: the line of a refusal; or phase 1's verdict, the marks, and the hard arguments. Each function writes from a place on,
+// What is printed of a job: the line of a refusal; or phase 1's verdict, the marks, and the hard arguments with their values. Each function writes from a place on,
 // as far as there are places, and tells the place after what it wrote. Each name that is printed stands here, and once.
 ghost use mathlib.Core.Path.{_≡_};
 ghost use mathlib.Core.List.{[]};
+ghost use lib.ListN.{length};
 ghost use lib.Seq.{sets};
 ghost use Rattle.numbers.specs.Lists.{place-after};
 ghost use Rattle.text.specs.Text.{bytes, line};
@@ -9,6 +10,7 @@ ghost use Rattle.job.specs.Output.{verdict-name, Small-marks, mark-digit
 use text::put;
 use text::put_byte;
 use text::put_line;
+use text::put_number;
 
 // A refusal is its number alone.
 pub(crate) fn put_refusal(number: u64, out: &mut [u8]) -> usize
@@ -23,16 +25,18 @@ pub(crate) fn put_report(
     first: segment::Verdict,
     marks: &[u8],
     arguments: &[u32],
+    values: &[u64],
     out: &mut [u8],
 ) -> usize
     requires { ⌜ Small-marks (now marks) ⌝ }
-    ensures { λ r. ⌜ r ≡ place-after 0 (report first (now (marks .entry)) (now (arguments .entry))) (now (out .entry)) ⌝ }
-    ensures { λ r. ⌜ now (out .exit) ≡ sets (now (out .entry)) 0 (report first (now (marks .entry)) (now (arguments .entry))) ⌝ }
+    requires { ⌜ length (now values) ≡ length (now arguments) ⌝ }
+    ensures { λ r. ⌜ r ≡ place-after 0 (report first (now (marks .entry)) (now (arguments .entry)) (now (values .entry))) (now (out .entry)) ⌝ }
+    ensures { λ r. ⌜ now (out .exit) ≡ sets (now (out .entry)) 0 (report first (now (marks .entry)) (now (arguments .entry)) (now (values .entry))) ⌝ }
 {
     let after_first = put_first(first, out, 0);
     let after_parts = put_parts(marks, out, after_first);
     let after_listed = put_line(b"listed=", arguments.len() as u64, out, after_parts);
-    put_arguments(arguments, out, after_listed)
+    put_arguments(arguments, values, out, after_listed)
 }
 
 // The line of phase 1's verdict.
@@ -82,15 +86,18 @@ fn put_marks(marks: &[u8], out: &mut [u8], at: usize) -> usize
     end
 }
 
-// A line for each argument.
-fn put_arguments(arguments: &[u32], out: &mut [u8], at: usize) -> usize
-    ensures { λ r. ⌜ r ≡ place-after at (argument-lines (now (arguments .entry))) (now (out .entry)) ⌝ }
-    ensures { λ r. ⌜ now (out .exit) ≡ sets (now (out .entry)) at (argument-lines (now (arguments .entry))) ⌝ }
+// A line for each argument and its value.
+fn put_arguments(arguments: &[u32], values: &[u64], out: &mut [u8], at: usize) -> usize
+    requires { ⌜ length (now values) ≡ length (now arguments) ⌝ }
+    ensures { λ r. ⌜ r ≡ place-after at (argument-lines (now (arguments .entry)) (now (values .entry))) (now (out .entry)) ⌝ }
+    ensures { λ r. ⌜ now (out .exit) ≡ sets (now (out .entry)) at (argument-lines (now (arguments .entry)) (now (values .entry))) ⌝ }
 {
     let mut i = 0;
     let mut end = at;
     while i < arguments.len() {
-        end = put_line(b"argument=", arguments[i] as u64, out, end);
+        let after_name = put(b"argument=", out, end);
+        let after_argument = put_number(arguments[i] as u64, out, after_name);
+        end = put_line(b" value=", values[i], out, after_argument);
         i = i + 1;
     }
     end

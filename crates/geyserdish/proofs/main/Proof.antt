@@ -16,7 +16,7 @@ unfolding overwrite-front
 fits xs old = omega (arith, length-append xs (drop (length xs) old))
 
 printed-within : tie.Need-array-share-prefix-output
-printed-within c = rw (c .run-job .ensures .0, c .run-job .ensures .1) (fits _ _)
+printed-within c = rw (c .run-job .ensures .0, c .run-job .ensures .1 .0) (fits _ _)
 
 printed-length : tie.Need-slice-aggregate-write-all
 printed-length c = sym (length-take-le (c .before .run-job .result) (c .before .run-job .last .1 .0) (printed-within (c .before)))

@@ -17,10 +17,10 @@ written c =
     let at-listed = at-end .before .before .before .before in
     let at-parts = at-listed .before .before .before .before .before in
     let at-first = at-parts .before .before .before .before in
-    let a = at-first .before .before .before .before .before .args in
+    let a = at-first .before .before .before .before .before .before .args in
     clip-done
-    (clip-list (argument-lines (a .arguments .now)) []
-    (clip-restate (sym (append-nil (argument-lines (a .arguments .now))))
+    (clip-list (argument-lines (a .arguments .now) (a .values .now)) []
+    (clip-restate (sym (append-nil (argument-lines (a .arguments .now) (a .values .now))))
     (clip-line (bytes "listed=") (decimal (length (a .arguments .now))) _
     (clip-line (bytes "parts=") (mark-digits (a .marks .now)) _
     (clip-line (bytes "first=") (verdict-name (a .first)) _ (clip-begin _ (a .out .now) 0) (at-first .put-first .ensures)) (at-parts .put-parts .ensures))
@@ -30,5 +30,5 @@ written c =
 pub put-report-spec : {M : Type 1} → statement M
 put-report-spec =
     tie.close
-    (tie.spec (λ c κs. tt) (λ c κs. c .before .before .before .before .before .before .before .before .pre) (λ c. search needs) (λ c κs. tt)
-    (λ c κs. tt) (λ c. search needs) written)
+    (tie.spec (λ c κs. tt) (λ c κs. c .before .before .before .before .before .before .before .before .before .pre .0) (λ c. search needs) (λ c κs. tt)
+    (λ c κs. search needs) (λ c. search needs) written)
