@@ -392,7 +392,7 @@ fn count_and_list_segment(segment: &Segment, to: &mut Memory) -> u32 {
 }
 
 /// Scans of segments of which every argument is hard, so that all are listed. With the modulus for the window the proved scan knows
-/// that and does not count; with one less it counts first, and no residue is so large.
+/// that and does not count; with one less it counts first, and no residue is the modulus less 1.
 fn full_scans(name: &str, count: u64, less: u64) {
     let mut memory = Memory::new(count as usize);
     let segments: Vec<Segment> = common::lines(4 * MOST / count as usize)
