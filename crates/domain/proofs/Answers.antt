@@ -11,6 +11,7 @@ use lib.Seq.{sets}
 use Rattle.numbers.specs.Checklist.{first-failing, unless-refused}
 use Rattle.numbers.specs.Lists.{overwrite-front}
 use Rattle.numbers.proofs.Checklists.{accepts, accepted, refused, gives, first-of-two, second-of-two, neither-refuses, refused-old}
+use Rattle.numbers.proofs.Remainders.{difference-within, difference-around}
 use Rattle.numbers.proofs.Buffers.{written-front}
 use Rattle.expansion.specs.Reached.Search.{regular}
 use Rattle.geometry.specs.Segment.{Segment, residue}
@@ -36,7 +37,6 @@ use Rattle.domain.specs.declared.DomainAnswer.the-variants as domain-var
 use Rattle.domain.specs.declared.ScanAnswer.{ScanAnswer}
 use Rattle.domain.specs.declared.ScanAnswer.the-variants as scan-variants
 use Rattle.domain.specs.declared.phases.Report.{Report}
-use Rattle.domain.proofs.Scanning.{difference-above, difference-around}
 use Rattle.domain.proofs.Parts.{none-listed, verdict-is}
 
 -- ---- which domains are accepted
@@ -128,9 +128,9 @@ raised-lowered : (M raise v : ℕ) → raise < M → v < M → lowered raise M (
 unfolding lowered
 raised-lowered M raise v l h =
     by-cases (decLt (v + raise) M)
-    (λ k. ap (λ (n : ℕ). (n + (M - raise)) % M) (mod-eq-of-lt k) ∙ difference-above M (v + raise) raise k l (omega arith) ∙ omega arith)
+    (λ k. ap (λ (n : ℕ). (n + (M - raise)) % M) (mod-eq-of-lt k) ∙ sym (difference-within M (v + raise) raise k (omega arith)) ∙ omega arith)
     (λ k. ap (λ (n : ℕ). (n + (M - raise)) % M) (mod-eq-sub-mod (omega arith) ∙ mod-eq-of-lt (omega arith))
-    ∙ difference-around M (v + raise - M) raise (omega arith) l (omega arith) ∙ omega arith)
+    ∙ sym (difference-around M (v + raise - M) raise l (omega arith)) ∙ omega arith)
 
 -- the values of what the phases search, lowered, are those of the domain
 values-lowered : (d : Domain) → Accepted d → lowered-values (d .window - 1) (centred-of d) ≡ hard-values d
@@ -227,7 +227,7 @@ residues-as-they-are {s} c =
     let some : 0 < s .unit = omega (arith, c .start-below) in
     let in-range = parabola-promises.promised .values (line s) some .in-range in
     ap₂ map
-    (λ j x. (difference-above (s .unit) (value-at (line s) x) 0 (in-range x) some (omega arith) ∙ sub-zero (value-at (line s) x) ∙ of-line .value x) j)
+    (λ j x. (sym (difference-within (s .unit) (value-at (line s) x) 0 (in-range x) (omega arith)) ∙ sub-zero (value-at (line s) x) ∙ of-line .value x) j)
     (of-line .lists)
 
 module _ (s : Segment) (old old-values : List ℕ) where

@@ -5,7 +5,7 @@ use mathlib.Core.Path.{_≡_, refl, sym, _∙_, ap, ap₂}
 use mathlib.Core.Bool.{true, false}
 use mathlib.Core.List.{List, map}
 use Prim.Native.Nat.{ℕ, suc, _+_, _-_, _%_, _≤_, _<_}
-use native.Mathlib.Nat.{sub-zero, add-zero, mod-eq-of-lt, mod-eq-sub-mod, lt-of-not-le}
+use native.Mathlib.Nat.{sub-zero, add-zero, mod-eq-of-lt, lt-of-not-le}
 use native.Mathlib.Omega.{arith}
 use native.Mathlib.Numerals.{add-one}
 use lib.Dec.{leb, ltb, leb·suc-suc}
@@ -15,6 +15,7 @@ use mir.Val.{boolByte}
 use borrow.Author.Tests.{leb-true, le-leb, lt-leb}
 use Rattle.numbers.specs.Integers.{_modulo_}
 use Rattle.numbers.proofs.Lists.{no-entries}
+use Rattle.numbers.proofs.Remainders.{difference-within}
 use Rattle.numbers.proofs.Signed.{read, curve-read}
 use Rattle.numbers.proofs.Selections.{filter-full, less, test-number, one-at-most, filter-from, from-none, from-hit, from-miss, from-length, from-full}
 use Rattle.numbers.proofs.Buffers.{Writing, begin as begin-writing, restate, write-one, done}
@@ -79,16 +80,6 @@ module _ {p : Parabola} {second highest x : ℕ} {t : Point} (a : At p second hi
   at-test : leb (t .value) highest ≡ is-hard p x
   unfolding is-hard
   at-test = sym (leb·suc-suc (t .value) highest) ∙ ap₂ ltb (a .value-is) (a .highest-is)
-
--- a - b modulo M is a difference, or one around by the modulus
-module _ (M a b : ℕ) (below : a < M) (low : b < M) where
-  pub difference-above : b ≤ a → (a + (M - b)) % M ≡ a - b
-  difference-above h =
-      let e : a + (M - b) - M ≡ a - b = omega arith in
-      mod-eq-sub-mod (omega arith) ∙ ap (λ (n : ℕ). n % M) e ∙ mod-eq-of-lt (omega arith)
-
-  pub difference-around : a < b → (a + (M - b)) % M ≡ a + (M - b)
-  difference-around h = mod-eq-of-lt (omega arith)
 
 -- a line keeps its slope
 pub line-next : {second modulus : ℕ} {t : Point} {v : ℕ} → Point-below second modulus t → second ≡ 0 → v ≡ (t .value + t .slope) % modulus
@@ -242,7 +233,7 @@ module _ {p : Parabola} {second highest : ℕ} {old old-values list values : Lis
       let full = from-full (is-hard p) (p .count) x h (l .all-left) in
       let hard = leb-true (t .value) highest (at-test (i .point) ∙ ap (is-hard p) argument-is ∙ full .0) in
       let below = at-below (i .point) .value-below in
-      let not-raised = sym (difference-above (p .unit) (t .value) 0 below (omega (arith, below)) (omega arith) ∙ sub-zero (t .value)) in
+      let not-raised = sym (sub-zero (t .value)) ∙ difference-within (p .unit) (t .value) 0 below (omega arith) in
       record { listing = list-hit i _ refl (omega (arith, still)) hard not-raised; all-left = rw (add-one x) (full .1) }
 
   pub all-done : p .count ≤ x

@@ -59,13 +59,13 @@ fn add_fixed(a: u64, b: u64, modulus: u64) -> u64
 
 // a - b modulo M. Where b is known to be 0, the compiler sees that there is nothing to do.
 pub(crate) fn subtract(a: u64, b: u64, modulus: u64) -> u64
-    requires { ⌜ (a < modulus) × (b < modulus) × (modulus ≤ 2 ^ 62) ⌝ }
+    requires { ⌜ (a < modulus) × (b < modulus) ⌝ }
     ensures { λ r. ⌜ r ≡ (a + (modulus - b)) % modulus ⌝ }
 {
     if b <= a {
         return a - b;
     }
-    a + (modulus - b)
+    modulus - (b - a)
 }
 
 // How many hard arguments there are. Where no value is above the highest hard one, every argument is hard, and none need be visited.
@@ -91,8 +91,8 @@ pub(crate) fn count_hard(arc: Arc) -> u32
     number
 }
 
-// Writes the hard arguments, of which there are `number`, into the list from a place on, each larger by what the arc begins at, and beside each its value as it
-// was before the arc was raised. It ends with the last of them. The next value is formed before this one is written, so that the sum and the writes overlap.
+// Writes the hard arguments, of which there are `number`, into the list from a place on, each larger by `begin`, where the arc begins in the domain, and beside each
+// its value as it was before the arc was raised. It ends with the last of them. The next value is formed before this one is written, so that the sum and the writes overlap.
 pub(crate) fn list_hard(
     arc: Arc,
     raise: u64,

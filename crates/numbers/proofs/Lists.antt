@@ -1,4 +1,4 @@
--- Lists that ascend strictly, number by number from a bound on; members and their places; lists without entries; an array that begins with a list and has zeros after
+-- Lists that ascend strictly, number by number from a bound on; members and their places; a function of every entry; lists without entries; an array that begins with a list and has zeros after
 -- it; what stands from a place on. Assumes nothing.
 use mathlib.Core.Path.{_≡_, refl, sym, _∙_, ap}
 use mathlib.Core.List.{List, [], _∷_, _++_, map, List·Memᴰ, List·Memᴰ·not-nil, List·Memᴰ·cases-cons}

@@ -138,7 +138,7 @@ pub one-at-most : (b : Bool) → cond b 1 0 ≤ 1
 one-at-most true = omega arith
 one-at-most false = omega arith
 
--- what counts for one holds
+-- a test that counts for one is true
 pub counts-one : (b : Bool) → 1 ≤ cond b 1 0 → b ≡ true
 counts-one true h = refl
 counts-one false h = absurd (omega arith)
@@ -167,7 +167,7 @@ module _ (p : ℕ → Bool) (n x : ℕ) where
         (elim (p x) as (λ b. p x ≡ b → length (filter-from p n x) ≡ cond b 1 0 + length (filter-from p n (suc x)))
         [ true ↦ λ e. ap length (from-hit e) ∙ omega arith | false ↦ λ e. ap length (from-miss e) ∙ omega arith ]) refl
 
-    -- where as many have the property as there are, the first has it, and so it is of the others
+    -- where all numbers from x on have the property, x has it, and so have all after it
     pub from-full : length (filter-from p n x) ≡ n - x → (p x ≡ true) × (length (filter-from p n (suc x)) ≡ n - suc x)
     from-full e =
         let few = filter-few p (n - suc x) (suc x) in

@@ -56,7 +56,7 @@ unfolding scan-answer scan-list-after scan-values-after
 refused c = let s = c .before .before .before .before in scan-refused (called s) _ _ (c .before .refuse .ensures) (c .if1 .taken)
 
 subtract-requires : tie.Need-subtract-requires
-subtract-requires c κs = let a = taken-on c in (omega (arith, a), omega (arith, a), a .unit-within .1)
+subtract-requires c κs = let a = taken-on c in (omega (arith, a), omega (arith, a))
 
 count-hard-requires : tie.Need-count-hard-requires
 count-hard-requires c κs =

@@ -57,7 +57,7 @@ subtract-requires c κs =
     let at-next = c .before .before in
     let at-loop = at-next .before .before in
     let b = at-below (at-loop .loop .inv .point) in
-    (omega (arith, b .value-below, next-below at-next), started at-loop .pre .1 .0, b .modulus-high)
+    (omega (arith, b .value-below, next-below at-next), started at-loop .pre .1 .0)
 
 slice-write-values : tie.Need-slice-write-values Inv-loop μ-loop
 slice-write-values c =
