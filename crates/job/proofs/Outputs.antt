@@ -2,7 +2,7 @@
 use mathlib.Core.Path.{_≡_, refl, sym, ap, ap₂, subst, _∙_}
 use mathlib.Core.List.{List, [], _∷_, List·Memᴰ, List·Memᴰ·head, List·Memᴰ·tail}
 use mathlib.Core.Logic.{_↔_}
-use Prim.Native.Nat.{ℕ, _*_, _^_, _≤_, _<_}
+use Prim.Native.Nat.{ℕ, _+_, _*_, _^_, _≤_, _<_}
 use native.Mathlib.Omega.{arith}
 use lib.ListN.{length, take, replicate, length-append, length-replicate, length-map}
 use lib.Seq.{sets}
@@ -20,9 +20,10 @@ use Rattle.domain.specs.declared.Domain.{Domain}
 use Rattle.domain.specs.declared.DomainAnswer.{DomainAnswer}
 use Rattle.domain.specs.declared.DomainAnswer.the-variants.{Refused, Searched}
 use Rattle.domain.proofs.Promises.{promised}
+use Rattle.text.specs.Text.{decimal}
 use Rattle.text.proofs.Promises as text
 use Rattle.job.specs.Reading.{reading, reading-refusal}
-use Rattle.job.specs.Output.{places, longest, answer-of, verdict-name, Small-marks, argument-lines, refused, report, printed-for, printed, job-answer, job-marks, job-list, job-values, output-with, output-of}
+use Rattle.job.specs.Output.{places, longest, answer-of, verdict-name, Small-marks, argument-line, argument-lines, refused, report, printed-for, printed, job-answer, job-marks, job-list, job-values, output-with, output-of}
 use Rattle.job.specs.declared.Reading.{Reading}
 use Rattle.job.specs.declared.Reading.the-variants.{Read, Malformed}
 
@@ -38,6 +39,10 @@ unfolding verdict-name
 name-short Clear = omega arith
 name-short Possible = omega arith
 
+-- the line of an argument and what follows it
+line-length : (x v : ℕ) (rest : List ℕ) → length (argument-line x v rest) ≡ 17 + length (decimal x) + length (decimal v) + length rest
+line-length x v rest = simp length-append (omega arith)
+
 -- arguments of up to seven digits with values of up to nineteen take up to 43 bytes each
 lines-short : (xs vs : List ℕ) → ((x : ℕ) → List·Memᴰ x xs → x < 10 ^ 7) → ((v : ℕ) → List·Memᴰ v vs → v < 10 ^ 19)
     → length (argument-lines xs vs) ≤ 43 * length xs
@@ -45,13 +50,13 @@ unfolding argument-lines
 lines-short [] vs h k = omega arith
 lines-short (x ∷ xs) [] h k = omega arith
 lines-short (x ∷ xs) (v ∷ vs) h k =
-    simp length-append
-    (omega (
+    omega (
       arith,
+      line-length x v (argument-lines xs vs),
       text.promised .decimals x .few 6 (h x (List·Memᴰ·head refl)),
       text.promised .decimals v .few 18 (k v (List·Memᴰ·head refl)),
       lines-short xs vs (λ y m. h y (List·Memᴰ·tail m)) (λ y m. k y (List·Memᴰ·tail m)),
-    ))
+    )
 
 -- what is reported of up to 4,096 arguments below 2^20, with values below 2^62
 report-short : (v : Verdict) (marks xs vs : List ℕ) → length marks ≡ 8 → length xs ≤ places → ((x : ℕ) → List·Memᴰ x xs → x < 1048576)
