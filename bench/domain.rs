@@ -1,6 +1,7 @@
 //! Searches of domains and scans: the proved calls against unverified Rust. First domains with a modulus from 2^61 to 2^62: those
 //! that phase 1 clears, also beside the proved regular search of their covering segments alone, and domains as they come. Then one
-//! pass of a scan, for each argument, against loops that only count, and scans that list every argument and its value.
+//! pass of a scan, for each argument, against loops that only count, and scans that list every argument and its value. Last, ranges of
+//! lists.
 //!
 //! For comparison: slides 004 imply 248 ns a domain (34,040 s for 2^37 domains on one core of 2010).
 
@@ -25,8 +26,12 @@ const PLACES: usize = 4096;
 /// The most arguments, and as many places.
 const MOST: usize = 1 << 20;
 
+/// Where every domain begins, the largest origin.
+const ORIGIN: u64 = 1 << 52;
+
 #[derive(Clone, Copy)]
 struct Domain {
+    origin: u64,
     modulus: u64,
     value: u64,
     slope: u64,
@@ -76,6 +81,7 @@ impl Domain {
         let reduced = |number: i128| number.rem_euclid(self.modulus as i128) as u64;
         let (value, slope, curve, x) = (self.value as i128, self.slope as i128, self.curve as i128, h as i128);
         Domain {
+            origin: self.origin + h,
             value: reduced(value + slope * x + curve * (x * (x - 1) / 2)),
             slope: reduced(slope + curve * x),
             count,
@@ -122,14 +128,17 @@ fn compare_and_add(a: u64, b: u64, modulus: u64) -> u64 {
 
 /// The search of a domain as documents 01 and 02 have it, plainly and unverified.
 #[inline(never)]
-fn search(domain: &Domain, list: &mut [u32], values: &mut [u64], marks: &mut Marks, searched: &mut Searched) -> u32 {
-    let Domain { modulus, value, slope, curve, count, window } = *domain;
+fn search(domain: &Domain, list: &mut [u64], values: &mut [u64], marks: &mut Marks, searched: &mut Searched) -> u32 {
+    let Domain { origin, modulus, value, slope, curve, count, window } = *domain;
     let refusal = tuned::refusal(modulus, slope, value, count, window);
     if refusal != 0 {
         return refusal;
     }
     if curve < -(1 << 20) || curve > 1 << 20 {
         return 6;
+    }
+    if origin > ORIGIN {
+        return 11;
     }
     let (covering, mut shown) = (domain.covering(), [0; 5]);
     same::regular(modulus, covering.step, covering.start, count, covering.window, &mut shown);
@@ -145,7 +154,7 @@ fn search(domain: &Domain, list: &mut [u32], values: &mut [u64], marks: &mut Mar
 #[inline(never)]
 fn search_parts(
     domain: &Domain,
-    list: &mut [u32],
+    list: &mut [u64],
     values: &mut [u64],
     marks: &mut Marks,
     searched: &mut Searched,
@@ -170,9 +179,10 @@ fn search_parts(
     if hard > 0 {
         let mut places = list.iter_mut().zip(values);
         for ((h, count), _) in domain.parts().zip(&found).filter(|(_, &mark)| mark == 2) {
-            domain.part(h, count).scan(|x, v| {
+            let part = domain.part(h, count);
+            part.scan(|x, v| {
                 let (argument, value) = places.next().unwrap();
-                (*argument, *value) = ((h + x) as u32, v);
+                (*argument, *value) = (part.origin + x, v);
             });
         }
     }
@@ -183,7 +193,7 @@ fn search_parts(
 
 /// The memory that the calls are lent.
 struct Memory {
-    list: Vec<u32>,
+    list: Vec<u64>,
     values: Vec<u64>,
     marks: Marks,
     searched: Searched,
@@ -199,9 +209,9 @@ impl Memory {
 }
 
 fn proved(domain: &Domain, to: &mut Memory) -> u32 {
-    let Domain { modulus, value, slope, curve, count, window } = *domain;
+    let Domain { origin, modulus, value, slope, curve, count, window } = *domain;
     let (list, values) = (&mut to.list, &mut to.values);
-    c_api::search_domain(modulus, value, slope, curve, count, window, list, values, &mut to.marks, &mut to.searched)
+    c_api::search_domain(origin, modulus, value, slope, curve, count, window, list, values, &mut to.marks, &mut to.searched)
 }
 
 fn proved_regular(segment: &Segment, to: &mut Memory) -> u32 {
@@ -229,7 +239,7 @@ fn nanoseconds<I, A>(inputs: &[I], memory: &mut Memory, call: impl Fn(&I, &mut M
 }
 
 /// What a search answers to a domain.
-fn answer(search: fn(&Domain, &mut Memory) -> u32, domain: &Domain) -> (u32, Searched, Marks, Vec<u32>, Vec<u64>) {
+fn answer(search: fn(&Domain, &mut Memory) -> u32, domain: &Domain) -> (u32, Searched, Marks, Vec<u64>, Vec<u64>) {
     let mut memory = Memory::new(PLACES);
     (search(domain, &mut memory), memory.searched, memory.marks, memory.list, memory.values)
 }
@@ -245,7 +255,7 @@ fn domains(number: usize, count: u64) -> Vec<Domain> {
     common::lines(number)
         .iter()
         .map(|&[modulus, slope, value]| {
-            let domain = Domain { modulus, value, slope, curve: small(value), count, window: 0 };
+            let domain = Domain { origin: ORIGIN, modulus, value, slope, curve: small(value), count, window: 0 };
             Domain { window: ((modulus >> 28) - domain.deviation()) / 2, ..domain }
         })
         .collect()
@@ -342,7 +352,8 @@ fn curved() -> Vec<Domain> {
         .zip([1 << 20, -(1 << 20)].iter().cycle())
         .map(|(&[modulus, slope, value], &curve)| {
             let modulus = modulus >> 10;
-            Domain { modulus, value: value % modulus, slope: slope % modulus, curve, count: 1 << 20, window: 1 }
+            let (value, slope) = (value % modulus, slope % modulus);
+            Domain { origin: ORIGIN, modulus, value, slope, curve, count: 1 << 20, window: 1 }
         })
         .collect()
 }
@@ -370,7 +381,7 @@ fn list_segment(segment: &Segment, to: &mut Memory, add: impl Fn(u64, u64, u64) 
     let Segment { modulus, step, start, count, window } = *segment;
     let slope = if step == 0 { 0 } else { modulus - step };
     let (mut residue, mut at) = (start, 0);
-    for x in 0..count as u32 {
+    for x in 0..count {
         if residue < window {
             // Safe: the callers have a place for every argument.
             unsafe { (*to.list.get_unchecked_mut(at), *to.values.get_unchecked_mut(at)) = (x, residue) };
@@ -422,7 +433,7 @@ fn list_domain(domain: &Domain, to: &mut Memory) -> u32 {
     let mut at = 0;
     domain.scan(|x, value| {
         // Safe: the callers have a place for every argument.
-        unsafe { (*to.list.get_unchecked_mut(at), *to.values.get_unchecked_mut(at)) = (x as u32, value) };
+        unsafe { (*to.list.get_unchecked_mut(at), *to.values.get_unchecked_mut(at)) = (domain.origin + x, value) };
         at += 1;
     });
     to.searched = [0, at as u64];
@@ -444,6 +455,38 @@ fn full_domains() {
     });
 }
 
+/// Whether a list ascends strictly, and where its range between two bounds lies, by loops that do not end early.
+#[inline(never)]
+fn range(list: &[u64], lo: u64, hi: u64) -> [u64; 2] {
+    let ascending = list.windows(2).fold(true, |so_far, pair| so_far & (pair[0] < pair[1]));
+    if lo > hi || !ascending {
+        return [0, 0];
+    }
+    let below = |bound| list.iter().filter(|&&entry| entry < bound).count() as u64;
+    let start = below(lo);
+    [start, below(hi) - start]
+}
+
+/// Ranges of lists of domains. The C function calls both `locate` and `range`, so that each of its loops runs twice.
+fn ranges() {
+    let list: Vec<u64> = (0..MOST as u64).map(|x| ORIGIN + 3 * x).collect();
+    let bounds = [1, 2].map(|part| (ORIGIN + part * MOST as u64 / 2, ORIGIN + part * MOST as u64));
+    let proved = |&(lo, hi): &(u64, u64), _: &mut Memory| {
+        let mut start = 0;
+        let count = c_api::range(&list, lo, hi, &mut start);
+        [start, count]
+    };
+    let plain = |&(lo, hi): &(u64, u64), _: &mut Memory| range(&list, lo, hi);
+    let mut memory = Memory::new(0);
+    for pair in &bounds {
+        assert_eq!(proved(pair, &mut memory), plain(pair, &mut memory));
+    }
+    measure(["range of a list, per entry N=2^20"], MOST as u64, || {
+        let proved = nanoseconds(&bounds, &mut memory, proved);
+        (proved, [nanoseconds(&bounds, &mut memory, plain)])
+    });
+}
+
 fn main() {
     let [whole, with_rest] = [1 << 15, (1 << 15) - 3].map(|count| domains(DOMAINS + DOMAINS / 16, count));
     // Unverified code that answers otherwise would not be worth a comparison.
@@ -461,4 +504,5 @@ fn main() {
     full_scans("N=2^12", 1 << 12, 0);
     full_scans("N=2^20 w=M-1", 1 << 20, 1);
     full_domains();
+    ranges();
 }

@@ -1,6 +1,6 @@
 //! Printing a full list: the proved program against unverified Rust that writes the same lines, for each of them. `bench/program` makes
 //! a library of the program, which is called within this process and gets its input and output calls from here. A run reads the job,
-//! searches and prints; what a line costs is what a job that lists 4,096 arguments of seven digits with values of nineteen takes more
+//! searches and prints; what a line costs is what a job that lists 4,096 arguments of sixteen digits with values of nineteen takes more
 //! than one that lists a single argument and scans as many, less what the search alone takes more.
 
 #[path = "../tests/c_api.rs"]
@@ -14,7 +14,7 @@ use std::io::Write;
 use std::time::Instant;
 
 /// The bytes of the longest answer, and the places of a job's list and values.
-const LONGEST: usize = 176_170;
+const LONGEST: usize = 213_034;
 const PLACES: usize = 4096;
 
 /// How often a job is run in a row.
@@ -66,14 +66,15 @@ struct Job {
 }
 
 impl Job {
+    const ORIGIN: u64 = 1 << 52;
     const MODULUS: u64 = 1 << 62;
     const COUNT: u64 = 1 << 20;
     const VALUE: u64 = Self::MODULUS - Self::COUNT;
 
     fn text(&self) -> String {
         let Job { window } = self;
-        let (modulus, value, count) = (Self::MODULUS, Self::VALUE, Self::COUNT);
-        format!("modulus={modulus}\nvalue={value}\nslope=1\ncurve=0\ncount={count}\nwindow={window}\n")
+        let (origin, modulus, value, count) = (Self::ORIGIN, Self::MODULUS, Self::VALUE, Self::COUNT);
+        format!("origin={origin}\nmodulus={modulus}\nvalue={value}\nslope=1\ncurve=0\ncount={count}\nwindow={window}\n")
     }
 
     /// Runs the program; what it wrote, where that is to be kept.
@@ -84,10 +85,10 @@ impl Job {
     }
 
     /// The search of its domain alone; how many arguments it listed.
-    fn search(&self, list: &mut [u32; PLACES], values: &mut [u64; PLACES]) -> u64 {
+    fn search(&self, list: &mut [u64; PLACES], values: &mut [u64; PLACES]) -> u64 {
         let (mut marks, mut searched) = ([0; 8], [0; 2]);
         let (modulus, value, count, window) = (Self::MODULUS, Self::VALUE, Self::COUNT, self.window);
-        c_api::search_domain(modulus, value, 1, 0, count, window, list, values, &mut marks, &mut searched);
+        c_api::search_domain(Self::ORIGIN, modulus, value, 1, 0, count, window, list, values, &mut marks, &mut searched);
         searched[1]
     }
 }
@@ -121,10 +122,10 @@ mod same {
         put(&digits[first..], out, at)
     }
 
-    pub fn lines(arguments: &[u32], values: &[u64], out: &mut [u8]) -> usize {
+    pub fn lines(arguments: &[u64], values: &[u64], out: &mut [u8]) -> usize {
         arguments.iter().zip(values).fold(0, |at, (&argument, &value)| {
             let after_name = put(b"argument=", out, at);
-            let after_argument = put_number(argument as u64, out, after_name);
+            let after_argument = put_number(argument, out, after_name);
             let after_value_name = put(b" value=", out, after_argument);
             let after_value = put_number(value, out, after_value_name);
             put_byte(b'\n', out, after_value)
@@ -133,7 +134,7 @@ mod same {
 }
 
 /// By Rust's own formatting.
-fn formatted(arguments: &[u32], values: &[u64], out: &mut [u8]) -> usize {
+fn formatted(arguments: &[u64], values: &[u64], out: &mut [u8]) -> usize {
     let (places, mut rest) = (out.len(), out);
     for (argument, value) in arguments.iter().zip(values) {
         writeln!(rest, "argument={argument} value={value}").unwrap();
@@ -158,7 +159,7 @@ fn main() {
     let (written, mut out) = (full.run(Some(Vec::new())).unwrap(), [0; LONGEST]);
     assert_eq!(written.len(), LONGEST);
     // Unverified code that prints something else would not be worth a comparison.
-    let unverified: [fn(&[u32], &[u64], &mut [u8]) -> usize; 2] = [same::lines, formatted];
+    let unverified: [fn(&[u64], &[u64], &mut [u8]) -> usize; 2] = [same::lines, formatted];
     for lines in unverified {
         let length = lines(&list, &values, &mut out);
         assert!(written.ends_with(&out[..length]) && written[..LONGEST - length].ends_with(b"\nlisted=4096\n"));
@@ -169,7 +170,7 @@ fn main() {
         let printed = nanoseconds(|| full.run(None)) - nanoseconds(|| single.run(None));
         let searched = nanoseconds(|| full.search(&mut list, &mut values));
         let searched = searched - nanoseconds(|| single.search(&mut list, &mut values));
-        let write = |lines: fn(&[u32], &[u64], &mut [u8]) -> usize| {
+        let write = |lines: fn(&[u64], &[u64], &mut [u8]) -> usize| {
             nanoseconds(|| lines(black_box(&listed.0), black_box(&listed.1), black_box(&mut out)))
         };
         (printed - searched, unverified.map(write))

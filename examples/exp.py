@@ -14,6 +14,10 @@ and the midpoints of two doubles, which are the breakpoints of all rounding mode
 
 the job's value is M·c0, its slope M·c1 and its curve M·c2, each rounded. Value and slope are taken modulo M.
 
+Origin. The origin is how many doubles of FIRST's binade lie below FIRST. So origin + x is how many of them lie below the
+double of x: its place in the binade. For a positive double of the binade that is the number of its 52 fraction bits, and for
+a negative one 2^52 - 1 less that number.
+
 Error. By Newton's formula F(x) = c0 + c1·x + c2·x(x-1)/2 + F'''(z)·x(x-1)(x-2)/6 for some z between 0 and N-1, and
 0 < F''' = 2^(3e)·F < 2^(54+3e). Let rounding change M·c0, M·c1 and M·c2 by r0, r1 and r2, each at most 1/2. Then the
 job's polynomial differs from M·F(x) by at most
@@ -50,6 +54,11 @@ def split(double):
     return int(math.ldexp(fraction, 53)), exponent - 53
 
 
+def place(m):
+    """How many doubles of the binade of m·2^e lie below it."""
+    return m - (1 << 52) if m > 0 else (1 << 53) - 1 + m
+
+
 def scaled(m, e):
     """2^k·exp(m·2^e) in fixed point, from 2^53 to 2^54, and k. For |m·2^e| < 32 it is off by less than 2^-200."""
     total = term = 1 << POINT
@@ -63,7 +72,7 @@ def scaled(m, e):
 
 
 def job(first, count, bits):
-    """The six numbers of the job."""
+    """The seven numbers of the job."""
     m, e = split(first)
     if "0x" not in first or not -107 <= e <= -48:
         sys.exit("the first double must be hexadecimal, as 0x1.2p-1, and its size from 2^-55 to below 32")
@@ -79,16 +88,16 @@ def job(first, count, bits):
     third = 1 << (POINT + 116 + 3 * e)
     err = r0 + r1 * count + r2 * count**2 // 2 + third * count**3 // 6
     within = (MODULUS >> bits) + (err >> POINT) + 2  # 1 to round up, 1 for what the series is off
-    return MODULUS, value % MODULUS, slope % MODULUS, curve, count, within + 1
+    return place(m), MODULUS, value % MODULUS, slope % MODULUS, curve, count, within + 1
 
 
 def text(numbers):
-    names = ("modulus", "value", "slope", "curve", "count", "window")
+    names = ("origin", "modulus", "value", "slope", "curve", "count", "window")
     return "".join(f"{name}={number}\n" for name, number in zip(names, numbers))
 
 
 def check(name, first, numbers):
-    modulus, value, slope, curve, count, window = numbers
+    origin, modulus, value, slope, curve, count, window = numbers
     values = ((value + slope * x + curve * (x * (x - 1) // 2)) % modulus for x in range(count))
     hard = [x for x, v in enumerate(values) if v < window or modulus - v < window]
     print(f"{name}: {len(hard)} listed")
@@ -98,7 +107,7 @@ def check(name, first, numbers):
         nearest = (f + HALF) >> POINT
         distance = math.log2(abs(f - (nearest << POINT))) - POINT
         kind = "midpoint" if nearest % 2 else "double"
-        print(f"    {x}: exp({math.ldexp(m + x, e).hex()}) is 2^{distance:.2f} half ulps from a {kind}")
+        print(f"    {origin + x}: exp({math.ldexp(m + x, e).hex()}) is 2^{distance:.2f} half ulps from a {kind}")
 
 
 if len(sys.argv) == 4:

@@ -7,12 +7,14 @@
  * modulus, for every x from 0 up, always from 0 to modulus - 1. Its arguments are the x below count. An argument is hard when its
  * residue is less than the window.
  *
- * A domain has a modulus, a value, a slope, a curve (signed), a count and a window. Its value at x is
+ * A domain has an origin, a modulus, a value, a slope, a curve (signed), a count and a window. Its value at x is
  * V(x) = (value + slope*x + curve*x(x-1)/2) mod modulus, always from 0 to modulus - 1. Its arguments are the x below count. An
  * argument x is hard when V(x) is less than the window away from a multiple of the modulus, on either side: V(x) < window or
- * modulus - V(x) < window.
+ * modulus - V(x) < window. The origin is where the domain begins in its binade: the argument x is listed as origin + x. It changes
+ * neither what is hard nor the values.
  *
- * Each function but geyserdish_range returns 0, or the number of a refusal: the lowest one whose condition holds.
+ * Each function but geyserdish_range returns 0, or the number of a refusal: the first in this table whose condition holds, where 11
+ * stands before 7.
  *
  *     1   modulus below 2 or above 2^62
  *     2   step or slope not below the modulus
@@ -20,6 +22,7 @@
  *     4   count not 1 to 1,048,576
  *     5   window 0 or above the modulus
  *     6   curve below -1,048,576 or above 1,048,576
+ *     11  origin above 2^52 (geyserdish_search_domain)
  *     7   more hard arguments than the list has places, or than the values have
  *     9   argument not below the period (geyserdish_digits, geyserdish_residue)
  *     10  target not below the modulus, or not a multiple of gcd(step, modulus) (geyserdish_divide)
@@ -227,22 +230,23 @@ uint32_t geyserdish_scan_segment(
     uint64_t start,
     uint64_t count,
     uint64_t window,
-    uint32_t *list,
+    uint64_t *list,
     size_t list_places,
     uint64_t *values,
     size_t value_places,
     uint64_t *listed);
 
 /*
- * The search of a domain: its hard arguments, all of them, and V of each. A regular search tries to clear the whole domain. Where it
- * does not, a fine search tries to clear each of eight parts, and a scan visits every argument of the parts that are not clear either.
+ * The search of a domain: its hard arguments, all of them, and V of each. A regular search tries to clear the whole domain, unless
+ * every value is hard. Where it does not, a fine search tries to clear each of eight parts, and a scan visits every argument of the parts that are not clear either.
  * Each part has count / 8 arguments, rounded down, and the first count % 8 parts have one more.
  *
  * Leaves:
- *     list[0] to list[searched[1] - 1]       the hard arguments, each once, in ascending order; the places after them are as they were
- *     values[0] to values[searched[1] - 1]   their values, each at the place of its argument: values[i] is V(list[i]) itself, from 0 to
- *                                            modulus - 1, also where it is just below the modulus; the places after them are as they
- *                                            were
+ *     list[0] to list[searched[1] - 1]       the hard arguments, each once, in ascending order, and each as origin + x; the places after
+ *                                            them are as they were
+ *     values[0] to values[searched[1] - 1]   their values, each at the place of its argument: values[i] is V(list[i] - origin) itself,
+ *                                            from 0 to modulus - 1, also where it is just below the modulus; the places after them are
+ *                                            as they were
  *     marks[0] to marks[7]                   of the eight parts, in order: 0, not looked at, of all eight where the domain is cleared;
  *                                            1, clear, with no hard argument; 2, possible, and scanned; 3, without arguments
  *     searched[0]                            the verdict on the whole domain: 1, cleared, with no hard argument, or 0, possible
@@ -255,17 +259,19 @@ uint32_t geyserdish_scan_segment(
  *     4   count not 1 to 1,048,576
  *     5   window 0 or above the modulus
  *     6   curve below -1,048,576 or above 1,048,576
+ *     11  origin above 2^52
  *     7   more hard arguments than list_places, or than value_places
- * and leaves list, values, marks and searched as they were.
+ * in this order, and leaves list, values, marks and searched as they were.
  */
 uint32_t geyserdish_search_domain(
+    uint64_t origin,
     uint64_t modulus,
     uint64_t value,
     uint64_t slope,
     int64_t curve,
     uint64_t count,
     uint64_t window,
-    uint32_t *list,
+    uint64_t *list,
     size_t list_places,
     uint64_t *values,
     size_t value_places,
@@ -273,8 +279,8 @@ uint32_t geyserdish_search_domain(
     uint64_t searched[2]);
 
 /*
- * The range of a strictly ascending list between two bounds: its entries from lo on and below hi. Every place of the list is read
- * as an entry, and none is changed.
+ * The range of a strictly ascending list between two bounds: its entries from lo on and below hi. Bounds are compared with entries as
+ * listed, which for a domain is origin + x. Every place of the list is read as an entry, and none is changed.
  *
  * Leaves:
  *     *start   the place of the range's first entry; where the range is empty, the number of entries below lo
@@ -283,10 +289,10 @@ uint32_t geyserdish_search_domain(
  * for lo above hi, it returns 0 and leaves 0 in *start. It refuses nothing.
  */
 uint64_t geyserdish_range(
-    const uint32_t *list,
+    const uint64_t *list,
     size_t places,
-    uint32_t lo,
-    uint32_t hi,
+    uint64_t lo,
+    uint64_t hi,
     uint64_t *start);
 
 #ifdef __cplusplus

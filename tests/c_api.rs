@@ -71,7 +71,7 @@ unsafe extern "C" {
         start: u64,
         count: u64,
         window: u64,
-        list: *mut u32,
+        list: *mut u64,
         list_places: usize,
         values: *mut u64,
         value_places: usize,
@@ -79,13 +79,14 @@ unsafe extern "C" {
     ) -> u32;
 
     fn geyserdish_search_domain(
+        origin: u64,
         modulus: u64,
         value: u64,
         slope: u64,
         curve: i64,
         count: u64,
         window: u64,
-        list: *mut u32,
+        list: *mut u64,
         list_places: usize,
         values: *mut u64,
         value_places: usize,
@@ -93,7 +94,7 @@ unsafe extern "C" {
         searched: &mut Searched,
     ) -> u32;
 
-    fn geyserdish_range(list: *const u32, length: usize, lo: u32, hi: u32, start: &mut u64) -> u64;
+    fn geyserdish_range(list: *const u64, length: usize, lo: u64, hi: u64, start: &mut u64) -> u64;
 }
 
 // Safe: a list, and the values beside it, have as many places as their lengths say, and nothing overlaps them.
@@ -106,7 +107,7 @@ pub fn scan_segment(
     start: u64,
     count: u64,
     window: u64,
-    list: &mut [u32],
+    list: &mut [u64],
     values: &mut [u64],
     listed: &mut u64,
 ) -> u32 {
@@ -117,16 +118,17 @@ pub fn scan_segment(
     }
 }
 
-/// The search of a domain into the caller's list, values and memory, or a refusal's number. The value of an argument goes into its place
-/// of the values.
+/// The search of a domain into the caller's list, values and memory, or a refusal's number. An argument is listed as origin + x, and its
+/// value goes into its place of the values.
 pub fn search_domain(
+    origin: u64,
     modulus: u64,
     value: u64,
     slope: u64,
     curve: i64,
     count: u64,
     window: u64,
-    list: &mut [u32],
+    list: &mut [u64],
     values: &mut [u64],
     marks: &mut Marks,
     searched: &mut Searched,
@@ -135,6 +137,7 @@ pub fn search_domain(
     let (value_places, values) = (values.len(), values.as_mut_ptr());
     unsafe {
         geyserdish_search_domain(
+            origin,
             modulus,
             value,
             slope,
@@ -152,6 +155,6 @@ pub fn search_domain(
 }
 
 /// The range of a list between two bounds: its start into the caller's memory, and its count.
-pub fn range(list: &[u32], lo: u32, hi: u32, start: &mut u64) -> u64 {
+pub fn range(list: &[u64], lo: u64, hi: u64, start: &mut u64) -> u64 {
     unsafe { geyserdish_range(list.as_ptr(), list.len(), lo, hi, start) }
 }

@@ -7,9 +7,9 @@ mod drawn;
 mod harness;
 mod reference;
 
-use drawn::{one_of, random_count, signed, somewhere, window};
+use drawn::{one_of, origin, random_count, signed, somewhere, window};
 use harness::{Lent, Random, Run, SEED};
-use reference::{Domain, Segment, LARGEST, LARGEST_CURVE, MOST};
+use reference::{Condition, Domain, Segment, LARGEST, LARGEST_CURVE, LARGEST_ORIGIN, MOST};
 use std::collections::HashSet;
 use std::fmt;
 
@@ -38,7 +38,7 @@ impl fmt::Display for Places {
 /// The caller's memory: the two columns of a list, which are its arguments and their values, and marks and numbers beside it.
 #[derive(PartialEq)]
 struct Memory {
-    list: Lent<u32>,
+    list: Lent,
     values: Lent,
     marks: Lent<u8>,
     numbers: Lent,
@@ -63,9 +63,9 @@ impl Memory {
 }
 
 /// What a call shows: the two columns of the list, and the marks and the numbers beside it. Nothing is shown of what is refused.
-#[derive(Default)]
+#[derive(Clone, Default)]
 struct Shown {
-    list: Vec<u32>,
+    list: Vec<u64>,
     values: Vec<u64>,
     marks: Vec<u8>,
     numbers: Vec<u64>,
@@ -102,8 +102,8 @@ impl Listing for Segment {
         if self.refusal() != 0 {
             return Shown::default();
         }
-        let list = self.hard();
-        Shown { values: self.values(&list), marks: vec![], numbers: vec![list.len() as u64], list }
+        let hard = self.hard();
+        Shown { values: self.values(&hard), marks: vec![], numbers: vec![hard.len() as u64], list: hard }
     }
 
     fn call(&self, memory: &mut Memory) -> u32 {
@@ -124,16 +124,16 @@ impl Listing for Domain {
         if self.refusal() != 0 {
             return Shown::default();
         }
-        let list = self.hard();
-        let numbers = vec![self.cleared() as u64, list.len() as u64];
-        Shown { values: self.values(&list), marks: self.marks().into(), numbers, list }
+        let hard = self.hard();
+        let numbers = vec![self.cleared() as u64, hard.len() as u64];
+        Shown { list: self.list(&hard), values: self.values(&hard), marks: self.marks().into(), numbers }
     }
 
     fn call(&self, memory: &mut Memory) -> u32 {
-        let Domain { modulus, value, slope, curve, count, window } = *self;
+        let Domain { origin, modulus, value, slope, curve, count, window } = *self;
         let (list, values) = (memory.list.lend_list(), memory.values.lend_list());
         let (marks, searched) = (memory.marks.lend(), memory.numbers.lend());
-        c_api::search_domain(modulus, value, slope, curve, count, window, list, values, marks, searched)
+        c_api::search_domain(origin, modulus, value, slope, curve, count, window, list, values, marks, searched)
     }
 }
 
@@ -198,6 +198,35 @@ fn check_every_turn(input: &impl Listing, shown: &Shown) -> Result<(), String> {
     (0..TURNS).try_for_each(|turn| check(input, turn, shown))
 }
 
+/// Origins that take turns in the calls below: the ends, some with which the arguments cross a multiple of 2^32, and others. Their
+/// number is prime, so that each of them meets each window and count.
+const ORIGINS: [u64; 11] = [
+    0,
+    1,
+    2,
+    1000,
+    1 << 31,
+    (1 << 32) - 8,
+    (1 << 32) - 1,
+    1 << 32,
+    0x000A_5A5A_FFFF_FFFD,
+    LARGEST_ORIGIN - 1,
+    LARGEST_ORIGIN,
+];
+
+/// The origin whose turn it is, or the next one where the domain has it already.
+fn other_origin(domain: &Domain, turn: usize) -> u64 {
+    let in_turn = [0, 1].map(|next| ORIGINS[(turn + next) % ORIGINS.len()]);
+    in_turn.into_iter().find(|&origin| origin != domain.origin).unwrap()
+}
+
+/// Calls with another origin: the answer, the marks and the values have to be the same, and the list moved by the difference.
+fn check_moved(domain: &Domain, origin: u64, shown: &Shown) -> Result<(), String> {
+    let list: Vec<u64> = shown.list.iter().map(|argument| argument - domain.origin + origin).collect();
+    let needed = Places { list: list.len(), values: list.len() };
+    check_places(&Domain { origin, ..*domain }, needed, &Shown { list, ..shown.clone() })
+}
+
 /// Calls with no places, a few and many, in both columns or in one of them: refused by what is beside them.
 fn check_refused(input: &impl Listing) -> Result<(), String> {
     let pairs = [(0, 0), (1, 1), (PLENTY, PLENTY), (0, PLENTY), (PLENTY, 0)];
@@ -205,13 +234,13 @@ fn check_refused(input: &impl Listing) -> Result<(), String> {
 }
 
 /// The sets of conditions in which an input was called: its own, and too few places in the list and in the values.
-type Sets = HashSet<(Vec<bool>, [bool; 2])>;
+type Sets = HashSet<(Vec<Condition>, [bool; 2])>;
 
 /// Calls with too few places in neither column, in one and in both, where that makes a set of conditions that is not yet among them. A
 /// column without a place has too few where the first argument is hard; with a place for every argument it has enough.
 fn check_sets<L: Listing>(
     input: &L,
-    conflicts: &[bool],
+    conflicts: &[Condition],
     count: u64,
     first_is_hard: bool,
     sets: &mut Sets,
@@ -226,12 +255,13 @@ fn check_sets<L: Listing>(
     Ok(())
 }
 
-/// The domains searched and the segments scanned, each once whatever its windows; the windows, how many were refused, and what was
-/// answered.
+/// The domains searched and the segments scanned, each once whatever its origins and windows; the different origins; the windows, how
+/// many were refused, and what was answered.
 #[derive(Default)]
 struct Tally {
     domains: HashSet<[u64; 5]>,
     segments: HashSet<[u64; 4]>,
+    origins: HashSet<u64>,
     windows: usize,
     refused: usize,
     cleared: usize,
@@ -245,6 +275,7 @@ impl Tally {
     fn add(&mut self, other: &Tally) {
         self.domains.extend(&other.domains);
         self.segments.extend(&other.segments);
+        self.origins.extend(&other.origins);
         self.windows += other.windows;
         self.refused += other.refused;
         self.cleared += other.cleared;
@@ -261,7 +292,8 @@ impl fmt::Display for Tally {
         if self.domains.is_empty() {
             write!(f, "{} segments, {windows} windows, {listed} listed", self.segments.len())?;
         } else {
-            write!(f, "{} domains, {windows} windows, {cleared} cleared", self.domains.len())?;
+            write!(f, "{} domains, {} origins", self.domains.len(), self.origins.len())?;
+            write!(f, ", {windows} windows, {cleared} cleared")?;
             write!(f, ", {clear_parts} parts clear, {scanned_parts} scanned and {empty_parts} empty, {listed} listed")?;
         }
         if self.refused != 0 {
@@ -279,11 +311,14 @@ fn compare(domain: &Domain, tally: &mut Tally) -> Result<(), String> {
     let shown = domain.shown();
     let starts = domain.starts();
     let part_of = |x| starts[..8].iter().rposition(|&start| start <= x).unwrap();
-    if shown.list.iter().any(|&x| shown.marks[part_of(x as u64)] != 2) {
+    if shown.list.iter().any(|argument| shown.marks[part_of(argument - domain.origin)] != 2) {
         return domain.wrong("hard where the reference clears");
     }
     check(domain, tally.windows, &shown)?;
+    let other = other_origin(domain, tally.windows);
+    check_moved(domain, other, &shown)?;
     tally.domains.insert(domain.parabola());
+    tally.origins.extend([domain.origin, other]);
     tally.windows += 1;
     tally.cleared += shown.numbers[0] as usize;
     let marked = |wanted| shown.marks.iter().filter(|&&mark| mark == wanted).count();
@@ -323,14 +358,26 @@ fn all_scans(segments: impl IntoIterator<Item = Segment>) -> Result<Tally, Strin
     Ok(tally)
 }
 
+/// The domains with random origins, made of their own seed.
+fn with_origins(own: u64, domains: impl IntoIterator<Item = Domain>) -> impl Iterator<Item = Domain> {
+    let mut random = Random(SEED + 100 + own);
+    domains.into_iter().map(move |domain| at(origin(&mut random), domain))
+}
+
 /// Compares so many random domains, made of their own seed.
 fn random_domains(own: u64, times: usize, make: impl Fn(&mut Random, usize) -> Domain) -> Result<Tally, String> {
     let mut random = Random(SEED + own);
-    all((0..times).map(|i| make(&mut random, i)))
+    all(with_origins(own, (0..times).map(|i| make(&mut random, i))))
 }
 
+/// A domain with the origin 0.
 fn domain(modulus: u64, value: u64, slope: u64, curve: i64, count: u64, window: u64) -> Domain {
-    Domain { modulus, value, slope, curve, count, window }
+    Domain { origin: 0, modulus, value, slope, curve, count, window }
+}
+
+/// The domain with another origin.
+fn at(origin: u64, domain: Domain) -> Domain {
+    Domain { origin, ..domain }
 }
 
 fn segment([modulus, step, start, count, window]: [u64; 5]) -> Segment {
@@ -433,14 +480,15 @@ fn far_regular_searches() -> Result<Tally, String> {
 
 fn realistic_domains() -> Result<Tally, String> {
     let mut random = Random(SEED + 8);
-    all((0..400).map(|i| {
+    let domains = (0..400).map(|i| {
         let modulus = (1 << 60) - random.below(1 << 59);
         let size = random.below([40, 1 << 14][i / 4 % 2]);
         // From mostly cleared to some hard ones.
         let window = 1 + random.below(modulus >> [29, 18, 14, 11][i % 4]);
         let (value, slope) = (random.below(modulus), random.below(modulus));
         domain(modulus, value, slope, signed(&mut random, size), 1 << 15, window)
-    }))
+    });
+    all(with_origins(8, domains))
 }
 
 fn extreme_fields() -> Result<Tally, String> {
@@ -473,16 +521,19 @@ fn largest_count() -> Result<Tally, String> {
         domains.extend([MOST, MOST - 1, MOST - 7].map(|count| domain(m - 57, value, slope, curve, count, window)));
     }
     domains.extend([LARGEST_CURVE, -LARGEST_CURVE].map(|curve| domain(m, m - 1, m - 1, curve, MOST - 1, m >> 16)));
-    all(domains)
+    // All arguments are listed, up to the largest of all.
+    let last = at(LARGEST_ORIGIN, domain(m, m - 1, m - 1, LARGEST_CURVE, MOST, m));
+    all(with_origins(12, domains).chain([last]))
 }
 
 fn random_fields_of_every_size() -> Result<Tally, String> {
-    let mut random = Random(SEED + 9);
+    let [mut random, mut origins] = [SEED + 9, SEED + 109].map(Random);
     let mut field = || random.next() >> random.below(64);
     all((0..60_000).map(|i| {
         let curve = field() as i64;
         let count = field() >> 50;
         Domain {
+            origin: origins.next() >> origins.below(64),
             modulus: field(),
             value: field(),
             slope: field(),
@@ -493,10 +544,26 @@ fn random_fields_of_every_size() -> Result<Tally, String> {
     }))
 }
 
-/// Every set of the conditions 1 to 7 in conflict with each other, 7 by the list, by the values and by both: the lowest number wins. Beside
-/// another condition, 7 applies where the first argument is hard and there is no place.
+/// Random domains at each end of what is accepted as an origin, beside them, and where a narrower number would wrap.
+fn ends_of_origins() -> Result<Tally, String> {
+    let mut random = Random(SEED + 14);
+    let accepted = [0, 1, (1 << 32) - 1, 1 << 32, LARGEST_ORIGIN - 1, LARGEST_ORIGIN];
+    let top = LARGEST_ORIGIN;
+    let refused = [top + 1, top + 2, top + (1 << 32), 2 * top, (1 << 63) - 1, 1 << 63, u64::MAX];
+    let domains = (0..500).map(|_| {
+        let (modulus, count) = (1 + random.sized(LARGEST - 1), random_count(&mut random, 256));
+        somewhere(&mut random, modulus, count)
+    });
+    let origins = || accepted.into_iter().chain(refused);
+    all(domains.flat_map(|domain| origins().map(move |origin| at(origin, domain))))
+}
+
+/// Every set of the conditions 1 to 7 and 11 in conflict with each other, 7 by the list, by the values and by both: the lowest number
+/// wins, but 11 comes before 7. Beside another condition, 7 applies where the first argument is hard and there is no place.
 fn every_set_of_refusals() -> Result<Tally, String> {
-    let (mut tally, mut sets) = (Tally::default(), Sets::new());
+    let (mut tally, mut sets, mut turn) = (Tally::default(), Sets::new(), 0);
+    // One that is accepted and one that is not.
+    let origins = [[0, LARGEST_ORIGIN + 1], [LARGEST_ORIGIN, u64::MAX]];
     let curves = [0, 5, LARGEST_CURVE, LARGEST_CURVE + 1, -LARGEST_CURVE, -LARGEST_CURVE - 1, i64::MIN, i64::MAX];
     let counts = [0, 1, 7, 8, 12, MOST + 1, MOST + 8, 1 << 63, u64::MAX];
     for modulus in [0, 1, 2, 45, LARGEST, LARGEST + 1, 1 << 63, u64::MAX - 1] {
@@ -506,28 +573,35 @@ fn every_set_of_refusals() -> Result<Tally, String> {
                 for window in fields {
                     let domain = domain(modulus, value, slope, curve, count, window);
                     let first_is_hard = count > 0 && modulus > 0 && domain.is_hard(0);
-                    check_sets(&domain, &domain.conflicts(), count, first_is_hard, &mut sets)?;
-                    compare(&domain, &mut tally)?;
+                    turn += 1;
+                    for domain in origins[turn % 2].map(|origin| at(origin, domain)) {
+                        check_sets(&domain, &domain.conflicts(), count, first_is_hard, &mut sets)?;
+                        compare(&domain, &mut tally)?;
+                    }
                 }
             }
         }
     }
     match sets.len() {
-        256 => Ok(tally),
-        few => Err(format!("only {few} of the 256 sets")),
+        512 => Ok(tally),
+        few => Err(format!("only {few} of the 512 sets")),
     }
 }
 
-/// What 01 and 02 say of the parts, of the reference's: each has the values of its stretch of the domain; no part is longer than one
-/// before it, and the last is at most one argument shorter than the first.
+/// What 01 and 02 say of the parts, of the reference's: each has the values and the list of its stretch of the domain; no part is longer
+/// than one before it, and the last is at most one argument shorter than the first.
 fn parts_of_the_reference() -> Result<String, String> {
-    let (mut random, mut values) = (Random(SEED + 13), 0);
+    let ([mut random, mut origins], mut values) = ([SEED + 13, SEED + 113].map(Random), 0);
     for _ in 0..2_000 {
         let (modulus, count) = (1 + random.sized(LARGEST - 1), random_count(&mut random, 512));
-        let domain = somewhere(&mut random, modulus, count);
+        let domain = at(origin(&mut origins), somewhere(&mut random, modulus, count));
         let of_parts = domain.parts().into_iter().flat_map(|part| (0..part.count).map(move |x| part.value_at(x)));
         if !of_parts.eq((0..count).map(|x| domain.value_at(x))) {
             return domain.wrong("parts with other values");
+        }
+        let of_parts = domain.parts().into_iter().flat_map(|part| part.list(&part.hard()));
+        if !of_parts.eq(domain.list(&domain.hard())) {
+            return domain.wrong("parts with other lists");
         }
         let counts = domain.parts().map(|part| part.count);
         if !counts.windows(2).all(|pair| pair[0] >= pair[1]) || counts[0] > counts[7] + 1 {
@@ -539,16 +613,17 @@ fn parts_of_the_reference() -> Result<String, String> {
 }
 
 /// What a domain shows, by hand: cleared or not, the marks, the list and its values.
-fn domain_shown(cleared: u64, marks: [u8; 8], list: &[u32], values: &[u64]) -> Shown {
+fn domain_shown(cleared: u64, marks: [u8; 8], list: &[u64], values: &[u64]) -> Shown {
     let numbers = vec![cleared, list.len() as u64];
     Shown { list: list.into(), values: values.into(), marks: marks.into(), numbers }
 }
 
-/// Document 01's examples that concern domains, as 02 leaves them, and some of 2.1 to 2.3 and of 2.6: cleared or not, the marks, the list and
-/// its values, which are V(x) and neither raised by the window nor moved to the other side of the multiple.
+/// Document 01's examples that concern domains, as 02 leaves them, and some of 2.1 to 2.3, of 2.6 and of 2.7: cleared or not, the marks,
+/// the list and its values. A value is V(x): not raised by the window, not moved to the other side of the multiple, not moved by the origin.
 fn settled_examples() -> Result<Tally, String> {
     let (m, all_eight) = (LARGEST, [0, 1, 2, 3, 4, 5, 6, 7]);
-    let examples: [(&str, Domain, u64, [u8; 8], &[u32], &[u64]); 18] = [
+    let (j, largest) = (domain(45, 44, 31, 0, 16, 3), 4_503_599_627_370_496);
+    let examples: [(&str, Domain, u64, [u8; 8], &[u64], &[u64]); 26] = [
         ("P10", domain(45, 44, 31, 0, 16, 3), 0, [2, 2, 1, 1, 1, 1, 1, 1], &[0, 3], &[44, 2]),
         ("P11", domain(45, 0, 0, 1, 8, 1), 0, [2, 2, 1, 1, 1, 1, 1, 1], &[0, 1], &[0, 0]),
         ("P11", domain(45, 0, 0, -1, 8, 1), 0, [2, 2, 1, 1, 1, 1, 1, 1], &[0, 1], &[0, 0]),
@@ -568,6 +643,28 @@ fn settled_examples() -> Result<Tally, String> {
         ("2.6", domain(45, 3, 2, -1, 8, 5), 0, [2, 1, 1, 1, 1, 2, 2, 2], &[0, 5, 6, 7], &[3, 3, 0, 41]),
         ("2.6", domain(45, 42, 43, 1, 8, 5), 0, [2, 1, 1, 1, 1, 2, 2, 2], &[0, 5, 6, 7], &[42, 42, 0, 4]),
         ("2.6", domain(m, m - 1, 1, 0, 3, 2), 0, [2, 2, 2, 3, 3, 3, 3, 3], &[0, 1, 2], &[m - 1, 0, 1]),
+        ("2.7", at(1, j), 0, [2, 2, 1, 1, 1, 1, 1, 1], &[1, 4], &[44, 2]),
+        ("2.7", at(4_294_967_295, j), 0, [2, 2, 1, 1, 1, 1, 1, 1], &[4_294_967_295, 4_294_967_298], &[44, 2]),
+        ("2.7", at(largest, j), 0, [2, 2, 1, 1, 1, 1, 1, 1], &[4_503_599_627_370_496, 4_503_599_627_370_499], &[44, 2]),
+        ("2.7", at(largest, domain(45, 44, 31, 0, 16, 1)), 1, [0; 8], &[], &[]),
+        ("2.7", at(largest, domain(45, 17, 0, 1, 8, 1)), 0, [1; 8], &[], &[]),
+        ("2.7", at(largest - 1, domain(45, 44, 31, 0, 3, 3)), 0, [2, 1, 1, 3, 3, 3, 3, 3], &[largest - 1], &[44]),
+        (
+            "2.7",
+            at(largest - 6, domain(45, 3, 2, -1, 8, 5)),
+            0,
+            [2, 1, 1, 1, 1, 2, 2, 2],
+            &[largest - 6, largest - 1, largest, largest + 1],
+            &[3, 3, 0, 41],
+        ),
+        (
+            "2.7",
+            at(largest, domain(m, m - 1, 1, 0, 3, 2)),
+            0,
+            [2, 2, 2, 3, 3, 3, 3, 3],
+            &[largest, largest + 1, largest + 2],
+            &[m - 1, 0, 1],
+        ),
     ];
     for (name, domain, cleared, marks, list, values) in examples {
         let shown = domain_shown(cleared, marks, list, values);
@@ -580,7 +677,7 @@ fn settled_examples() -> Result<Tally, String> {
 
 /// Domains whose verdict or marks would be others with another D: cleared or not, the marks, the list and its values, by hand.
 fn verdicts_by_spread() -> Result<Tally, String> {
-    let examples: [(Domain, u64, [u8; 8], &[u32], &[u64]); 5] = [
+    let examples: [(Domain, u64, [u8; 8], &[u64], &[u64]); 5] = [
         (domain(45, 17, 0, 1, 8, 1), 0, [1; 8], &[], &[]),
         (domain(45, 1, 0, 1, 8, 1), 1, [0; 8], &[], &[]),
         (domain(45, 0, 0, 1, 16, 1), 0, [2, 1, 1, 1, 1, 2, 1, 1], &[0, 1, 10], &[0, 0, 0]),
@@ -593,9 +690,12 @@ fn verdicts_by_spread() -> Result<Tally, String> {
     all(examples.map(|example| example.0))
 }
 
-/// Document 01's examples without a mark that concern domains, as 02 leaves them, two more counts that 02 accepts, and a window of 0 (2.3): 5 comes
-/// after 4 and before 6. Then 7, by the list and by the values (2.6), which comes after all of them.
+/// Document 01's examples without a mark that concern domains, as 02 leaves them, two more counts that 02 accepts, and a window of 0
+/// (2.3): 5 comes after 4 and before 6. Then the ends of the origin (2.7): 11 comes after 6. Then 7, by the list and by the values (2.6),
+/// which comes after all of them.
 fn settled_refusals() -> Result<Tally, String> {
+    // The argument 0 of each is hard, and of the first one other.
+    let [two, curved, wide] = [(0, 3), (LARGEST_CURVE + 1, 3), (0, 46)].map(|(s, w)| domain(45, 44, 31, s, 16, w));
     let refusals = [
         (domain(1, 0, 0, 0, 8, 1), 1),
         (domain(2, 0, 0, 0, 8, 1), 0),
@@ -614,9 +714,22 @@ fn settled_refusals() -> Result<Tally, String> {
         (domain(45, 44, 31, LARGEST_CURVE + 1, 16, 1), 6),
         (domain(45, 44, 31, i64::MIN, 16, 3), 6),
         (domain(45, 44, 31, i64::MAX, 16, 3), 6),
+        (at(1, two), 0),
+        (at((1 << 52) - 1, two), 0),
+        (at(1 << 52, two), 0),
+        (at((1 << 52) + 1, two), 11),
+        (at(1 << 53, two), 11),
+        (at(1 << 63, two), 11),
+        (at(u64::MAX, two), 11),
+        (at((1 << 52) + 1, curved), 6),
+        (at(u64::MAX, curved), 6),
+        (at(u64::MAX, wide), 5),
+        (at(u64::MAX, domain(45, 44, 31, 0, 16, 0)), 5),
+        (at(u64::MAX, domain(45, 44, 31, 0, 0, 3)), 4),
+        (at(u64::MAX, domain(45, 45, 31, 0, 16, 3)), 3),
+        (at(u64::MAX, domain(45, 44, 45, 0, 16, 3)), 2),
+        (at(u64::MAX, domain(1, 0, 0, 0, 8, 1)), 1),
     ];
-    // The argument 0 of each is hard, and of the first one other.
-    let [two, curved, wide] = [(0, 3), (LARGEST_CURVE + 1, 3), (0, 46)].map(|(s, w)| domain(45, 44, 31, s, 16, w));
     let by_places = [
         (two, (2, 2), 0),
         (two, (2, 16), 0),
@@ -635,6 +748,18 @@ fn settled_refusals() -> Result<Tally, String> {
         (wide, (0, 16), 5),
         (wide, (16, 0), 5),
         (wide, (0, 0), 5),
+        (at(1 << 52, two), (2, 2), 0),
+        (at(1 << 52, two), (1, 2), 7),
+        (at(1 << 52, two), (2, 1), 7),
+        (at(1 << 52, two), (0, 0), 7),
+        (at((1 << 52) + 1, two), (2, 2), 11),
+        (at((1 << 52) + 1, two), (1, 2), 11),
+        (at((1 << 52) + 1, two), (2, 1), 11),
+        (at((1 << 52) + 1, two), (0, 0), 11),
+        (at(u64::MAX, two), (0, 16), 11),
+        (at(u64::MAX, two), (16, 0), 11),
+        (at(u64::MAX, two), (0, 0), 11),
+        (at(u64::MAX, curved), (0, 0), 6),
     ];
     let with_places = refusals.map(|(domain, number)| (domain, (16, 16), number)).into_iter().chain(by_places);
     for (domain, places, number) in with_places {
@@ -712,7 +837,7 @@ fn every_set_of_scan_refusals() -> Result<Tally, String> {
 /// Document 01's example P9 with its residues, scans with a window of M, 01's refusals that concern scans, as 02 leaves them, and 7, by the
 /// list and by the values.
 fn settled_scans() -> Result<Tally, String> {
-    let examples: [([u64; 5], &[u32], &[u64]); 5] = [
+    let examples: [([u64; 5], &[u64], &[u64]); 5] = [
         ([45, 14, 44, 16, 6], &[3, 6], &[2, 5]),
         ([45, 14, 44, 16, 3], &[3], &[2]),
         ([45, 14, 44, 3, 45], &[0, 1, 2], &[44, 30, 16]),
@@ -755,12 +880,11 @@ fn settled_scans() -> Result<Tally, String> {
     all_scans(refusals.map(|refusal| segment(refusal.0)))
 }
 
-/// Compares the range of a list between two bounds with the reference; the list has to stay as it is.
-fn compare_range(list: &[u32], lo: u32, hi: u32) -> Result<(), String> {
+/// Cuts a list between two bounds: the range has to have this start and this count, and the list has to stay as it is.
+fn check_range(list: &[u64], lo: u64, hi: u64, (start, count): (usize, usize)) -> Result<(), String> {
     let [mut lent, mut wanted] = [(); 2].map(|_| Memory::new(Places::of((list.len(), 0)), 0, 1));
     lent.list.lend_list().copy_from_slice(list);
     wanted.list.lend_list().copy_from_slice(list);
-    let (start, count) = reference::range(list, lo, hi);
     wanted.numbers.lend_list()[0] = start as u64;
     let [at] = lent.numbers.lend();
     let number = c_api::range(lent.list.part(), lo, hi, at);
@@ -773,19 +897,38 @@ fn compare_range(list: &[u32], lo: u32, hi: u32) -> Result<(), String> {
     Ok(())
 }
 
-/// Every list of up to five of five neighbouring numbers, in any order, with every pair of bounds about them: the smallest numbers,
-/// the largest and some between.
+/// Compares the range of a list between two bounds with the reference.
+fn compare_range(list: &[u64], lo: u64, hi: u64) -> Result<(), String> {
+    check_range(list, lo, hi, reference::range(list, lo, hi))
+}
+
+/// Five ascending numbers and bounds about them. They are neighbours: the smallest numbers, the largest and some between, also such as
+/// cross 2^32 and 2^52. Or their lower halves are the same, or fall as the numbers rise, and would mislead who compares 32 bits.
+fn numbers_and_bounds() -> Vec<([u64; 5], Vec<u64>)> {
+    let firsts = [0, 1 << 20, 1 << 31, (1 << 32) - 5, (1 << 32) - 2, (1 << 52) - 2, u64::MAX - 4];
+    let neighbours = firsts.map(|first: u64| {
+        let bounds = (0..7).filter_map(|by| first.checked_add(by)?.checked_sub(1)).collect();
+        ([0, 1, 2, 3, 4].map(|by| first + by), bounds)
+    });
+    let upper = [0, 1, 2, 1 << 20, u32::MAX as u64];
+    let halves = [[5; 5], [4, 3, 2, 1, 0]].map(|lower: [u64; 5]| {
+        let numbers = [0, 1, 2, 3, 4].map(|i| (upper[i] << 32) + lower[i]);
+        (numbers, [&numbers[..], &[1 << 32]].concat())
+    });
+    neighbours.into_iter().chain(halves).collect()
+}
+
+/// Every list of up to five of five numbers, in any order, with every pair of bounds about them.
 fn every_small_range() -> Result<String, String> {
     let (mut lists, mut longest, mut ranges) = (vec![vec![]], vec![vec![]], 0);
     for _ in 0..5 {
-        longest = longest.iter().flat_map(|list| (0..5u32).map(|last| [&list[..], &[last]].concat())).collect();
+        longest = longest.iter().flat_map(|list| (0..5).map(|last| [&list[..], &[last]].concat())).collect();
         lists.extend(longest.iter().cloned());
     }
-    for shift in [0, 1 << 20, 1 << 31, u32::MAX - 4] {
-        let mut bounds: Vec<u32> = (0..7u32).filter_map(|by| shift.checked_add(by)?.checked_sub(1)).collect();
-        bounds.extend([0, u32::MAX]);
+    for (numbers, mut bounds) in numbers_and_bounds() {
+        bounds.extend([0, u64::MAX]);
         for list in &lists {
-            let list: Vec<u32> = list.iter().map(|argument| shift + argument).collect();
+            let list: Vec<u64> = list.iter().map(|&place: &usize| numbers[place]).collect();
             for (lo, hi) in bounds.iter().flat_map(|&lo| bounds.iter().map(move |&hi| (lo, hi))) {
                 compare_range(&list, lo, hi)?;
                 ranges += 1;
@@ -795,31 +938,44 @@ fn every_small_range() -> Result<String, String> {
     Ok(format!("{ranges} ranges of {} lists", lists.len()))
 }
 
-/// A strictly ascending list, of numbers below a bound.
-fn ascending(random: &mut Random, length: u64, below: u64) -> Vec<u32> {
-    let mut list: Vec<u32> = (0..length).map(|_| random.below(below) as u32).collect();
+/// A strictly ascending list, of numbers from one on and below a bound that is counted from it.
+fn ascending(random: &mut Random, length: u64, from: u64, below: u64) -> Vec<u64> {
+    let mut list: Vec<u64> = (0..length).map(|_| from + random.below(below)).collect();
     list.sort();
     list.dedup();
     list
 }
 
-/// Random longer lists, strictly ascending or not at one place only, with bounds at the arguments and beside them.
+/// A bound at a number or beside it, with another upper half, at an end, or anywhere.
+fn bound_about(random: &mut Random, near: u64) -> u64 {
+    let (any, lower, high) = (random.next(), near & u32::MAX as u64, 1 << 32);
+    let beside = [near, near, near.saturating_sub(1), near.saturating_add(1)];
+    let far = [lower, near.saturating_sub(high), near.saturating_add(high), any, 0, high, u64::MAX];
+    if random.below(2) == 0 {
+        one_of(random, &beside)
+    } else {
+        one_of(random, &far)
+    }
+}
+
+/// Random longer lists, strictly ascending or not at one place only, with bounds about their arguments.
 fn random_ranges() -> Result<String, String> {
     let (mut random, mut ranges) = (Random(SEED + 11), 0);
-    for i in 0..6_000 {
-        let (length, below) = (1 + random.sized(300), [MOST, 1 << 32, 400][i % 3]);
-        let mut list = ascending(&mut random, length, below);
+    for i in 0..8_000 {
+        let (length, below) = (1 + random.sized(300), [MOST, 1 << 32, 400, 1 << 53][i % 4]);
+        let from = one_of(&mut random, &[0, 0, (1 << 32) - 200, LARGEST_ORIGIN, u64::MAX - below]);
+        let mut list = ascending(&mut random, length, from, below);
         let at = random.below(list.len() as u64) as usize;
-        match i % 4 {
+        match i % 5 {
             0 if at > 0 => list[at] = list[at - 1],
             1 if at > 0 => list.swap(at - 1, at),
+            2 => list[at] ^= 1 << 32,
             _ => (),
         }
         for _ in 0..24 {
             let bounds = [(); 2].map(|_| {
                 let near = one_of(&mut random, &list);
-                let any = random.next() as u32;
-                one_of(&mut random, &[near, near.saturating_sub(1), near.saturating_add(1), any, 0, u32::MAX])
+                bound_about(&mut random, near)
             });
             compare_range(&list, bounds[0], bounds[1])?;
             ranges += 1;
@@ -828,20 +984,96 @@ fn random_ranges() -> Result<String, String> {
     Ok(format!("{ranges} ranges"))
 }
 
-/// Lists as long as the largest that a call fills.
+/// Lists as long as the largest that a call fills, from 0 on and from the largest origin on.
 fn longest_ranges() -> Result<String, String> {
-    let mut list: Vec<u32> = (0..MOST as u32).collect();
-    let bounds = [0, 1, 524_288, MOST as u32 - 1, MOST as u32, u32::MAX];
-    let pairs = || bounds.iter().flat_map(|&lo| bounds.map(|hi| (lo, hi)));
-    pairs().try_for_each(|(lo, hi)| compare_range(&list, lo, hi))?;
-    *list.last_mut().unwrap() -= 1;
-    pairs().try_for_each(|(lo, hi)| compare_range(&list, lo, hi))?;
-    Ok(format!("{} ranges", 2 * bounds.len().pow(2)))
+    let mut ranges = 0;
+    for from in [0, LARGEST_ORIGIN] {
+        let mut list: Vec<u64> = (from..from + MOST).collect();
+        let bounds = [0, 1, 524_288, MOST - 1, MOST, u32::MAX as u64].map(|bound| from + bound);
+        let pairs = || bounds.iter().flat_map(|&lo| bounds.map(|hi| (lo, hi)));
+        pairs().try_for_each(|(lo, hi)| compare_range(&list, lo, hi))?;
+        *list.last_mut().unwrap() -= 1;
+        pairs().try_for_each(|(lo, hi)| compare_range(&list, lo, hi))?;
+        ranges += 2 * bounds.len().pow(2);
+    }
+    Ok(format!("{ranges} ranges"))
+}
+
+/// The lists that calls leave for domains with an origin, cut where the parts begin: each cut has the start and the count of the cut
+/// without the origin. Bounds without the origin come before such a list, where it is large enough.
+fn ranges_of_domains() -> Result<String, String> {
+    let ([mut random, mut origins], mut ranges) = ([SEED + 15, SEED + 115].map(Random), 0);
+    for i in 0..2_000 {
+        let (modulus, count) = (2 + random.below(4096), random_count(&mut random, 256));
+        let somewhere = Domain { window: 1 + modulus / 8, ..somewhere(&mut random, modulus, count) };
+        let domain = at(if i % 2 == 0 { LARGEST_ORIGIN } else { origin(&mut origins) }, somewhere);
+        let (hard, starts) = (domain.hard(), domain.starts());
+        let mut lent = Memory::new(Places::of((hard.len(), hard.len())), 8, 2);
+        if domain.call(&mut lent) != 0 || lent.list.part() != domain.list(&hard) {
+            return domain.wrong("refused, or another list");
+        }
+        for (lo, hi) in starts.iter().flat_map(|&lo| starts.map(|hi| (lo, hi))) {
+            let cut = reference::range(&hard, lo, hi);
+            check_range(lent.list.part(), domain.origin + lo, domain.origin + hi, cut)?;
+            ranges += 1;
+        }
+        if domain.origin >= count {
+            check_range(lent.list.part(), 0, count, (0, 0))?;
+            ranges += 1;
+        }
+    }
+    Ok(format!("{ranges} ranges"))
+}
+
+/// Ranges by hand, most of them such that 32 bits do not tell: of J's list with the largest origin, of bounds and arguments that differ
+/// in the upper half alone, and of lists whose lower halves ascend where they do not, or do not where they do.
+fn settled_ranges() -> Result<String, String> {
+    let (word, largest, most) = (1 << 32, 4_503_599_627_370_496, u64::MAX);
+    let (j, threes) = ([largest, largest + 3], [3, 6, 9]);
+    let (same_lower, falling_lower) = ([5, word + 5, 2 * word + 5], [2, word + 1, 2 * word]);
+    let examples: [(&[u64], u64, u64, (usize, usize)); 33] = [
+        (&threes, 4, 9, (1, 1)),
+        (&threes, 7, 8, (2, 0)),
+        (&threes, 4, word, (1, 2)),
+        (&threes, 4, word + 4, (1, 2)),
+        (&threes, word, 10, (0, 0)),
+        (&threes, word, word + 10, (3, 0)),
+        (&threes, word, most, (3, 0)),
+        (&threes, most, 0, (0, 0)),
+        (&j, largest, largest + 16, (0, 2)),
+        (&j, largest, largest + 3, (0, 1)),
+        (&j, largest + 1, largest + 4, (1, 1)),
+        (&j, largest + 1, largest + 3, (1, 0)),
+        (&j, largest + 4, most, (2, 0)),
+        (&j, 0, 16, (0, 0)),
+        (&j, 0, largest, (0, 0)),
+        (&j, 0, largest + 1, (0, 1)),
+        (&same_lower, 0, word, (0, 1)),
+        (&same_lower, word, 2 * word, (1, 1)),
+        (&same_lower, 5, 2 * word + 5, (0, 2)),
+        (&same_lower, 6, 2 * word + 6, (1, 2)),
+        (&same_lower, word + 6, 2 * word + 5, (2, 0)),
+        (&falling_lower, 0, most, (0, 3)),
+        (&falling_lower, 2, word + 1, (0, 1)),
+        (&falling_lower, word, 2 * word, (1, 1)),
+        (&falling_lower, word + 2, 2 * word + 1, (2, 1)),
+        (&[word + 1, 2, 3], 0, most, (0, 0)),
+        (&[word + 5, 5], 0, most, (0, 0)),
+        (&[word + 5, word + 5], 0, most, (0, 0)),
+        (&[word - 1, word], word - 1, word, (0, 1)),
+        (&[word - 1, word], word, word + 1, (1, 1)),
+        (&[0, most], 0, most, (0, 1)),
+        (&[0, most], 1, most, (1, 0)),
+        (&[most - 1, most], most - 1, most, (0, 1)),
+    ];
+    examples.iter().try_for_each(|&(list, lo, hi, range)| check_range(list, lo, hi, range))?;
+    examples.iter().try_for_each(|&(list, lo, hi, _)| compare_range(list, lo, hi))?;
+    Ok(format!("{} ranges", examples.len()))
 }
 
 fn main() {
     let mut run = Run::start();
-    let domain_tests: [(&str, fn() -> Result<Tally, String>); 17] = [
+    let domain_tests: [(&str, fn() -> Result<Tally, String>); 18] = [
         ("every modulus up to 8", every_small_domain),
         ("random small moduli", random_small_moduli),
         ("random moduli of every size", random_moduli_of_every_size),
@@ -855,6 +1087,7 @@ fn main() {
         ("extreme fields", extreme_fields),
         ("counts up to 2^20", largest_count),
         ("random fields of every size", random_fields_of_every_size),
+        ("ends of origins", ends_of_origins),
         ("every set of refusals", every_set_of_refusals),
         ("settled examples", settled_examples),
         ("verdicts that hang on D", verdicts_by_spread),
@@ -880,7 +1113,10 @@ fn main() {
     run.count("every small range", every_small_range());
     run.count("random ranges", random_ranges());
     run.count("longest ranges", longest_ranges());
+    run.count("ranges of domains' lists", ranges_of_domains());
+    run.count("settled ranges", settled_ranges());
     let enough = domains.domains.len() >= 100_000
+        && domains.origins.len() >= 30_000
         && domains.cleared >= 10_000
         && domains.clear_parts >= 50_000
         && domains.empty_parts >= 50_000;

@@ -4,7 +4,7 @@
 #![allow(dead_code)]
 
 use crate::harness::Random;
-use crate::reference::{Domain, LARGEST_CURVE};
+use crate::reference::{Domain, LARGEST_CURVE, LARGEST_ORIGIN};
 
 pub fn one_of<T: Copy>(random: &mut Random, from: &[T]) -> T {
     from[random.below(from.len() as u64) as usize]
@@ -32,11 +32,19 @@ fn curve(random: &mut Random, modulus: u64, count: u64) -> i64 {
     signed(random, size)
 }
 
-/// A random value, slope, curve and window beside what is given.
+/// Origins from 0 to 2^52: the ends and what is beside them, small ones, some with which the arguments cross 2^32, and random ones,
+/// evenly and of every size.
+pub fn origin(random: &mut Random) -> u64 {
+    let (any, sized) = (random.below(LARGEST_ORIGIN + 1), random.sized(LARGEST_ORIGIN));
+    let (small, crossing) = (random.below(1000), (1 << 32) - random.below(256));
+    one_of(random, &[0, 1, small, crossing, LARGEST_ORIGIN - 1, LARGEST_ORIGIN, any, any, sized])
+}
+
+/// A random value, slope, curve and window beside what is given, with the origin 0.
 pub fn somewhere(random: &mut Random, modulus: u64, count: u64) -> Domain {
     let (value, slope) = (random.below(modulus), random.below(modulus));
     let (curve, window) = (curve(random, modulus, count), window(random, modulus, count));
-    Domain { modulus, value, slope, curve, count, window }
+    Domain { origin: 0, modulus, value, slope, curve, count, window }
 }
 
 /// A count up to the given multiple of 8: any, or rounded up to a multiple of 8.

@@ -20,12 +20,6 @@ impl Word for u64 {
     }
 }
 
-impl Word for u32 {
-    fn of(bits: u64) -> Self {
-        (bits >> 32) as u32
-    }
-}
-
 impl Word for u8 {
     fn of(bits: u64) -> Self {
         (bits >> 56) as u8

@@ -9,8 +9,10 @@
 #include <stdio.h>
 #include <string.h>
 
-/* The largest modulus, 2^62. */
+/* 2^32; the largest modulus, 2^62; the largest origin, 2^52. */
+#define WORD (UINT64_C(1) << 32)
 #define LARGEST (UINT64_C(1) << 62)
+#define TOP UINT64_C(4503599627370496)
 
 /* ---- the caller's memory ---- */
 
@@ -65,7 +67,7 @@ struct columns {
 };
 
 static struct columns columns(size_t list_places, size_t value_places) {
-    struct columns made = {fresh("list", 4, list_places), fresh("values", 8, value_places)};
+    struct columns made = {fresh("list", 8, list_places), fresh("values", 8, value_places)};
     return made;
 }
 
@@ -475,7 +477,7 @@ static void check_fine_searches(void) {
 /* ---- the scan of a segment ---- */
 
 static void check_scan_into(struct columns lent, const char *example, struct segment s, uint32_t refusal,
-                            const uint32_t hard[], const uint64_t residues[], uint64_t listed) {
+                            const uint64_t hard[], const uint64_t residues[], uint64_t listed) {
     struct lent has[3] = {lent.list, lent.values, fresh("listed", 8, 1)};
     struct lent wanted[3] = {has[0], has[1], has[2]};
     if (refusal == 0) {
@@ -489,7 +491,7 @@ static void check_scan_into(struct columns lent, const char *example, struct seg
 }
 
 /* In each column with as many places as there are hard arguments, with more, and with one too few. */
-static void check_scan(const char *example, struct segment s, const uint32_t hard[], const uint64_t residues[],
+static void check_scan(const char *example, struct segment s, const uint64_t hard[], const uint64_t residues[],
                        uint64_t listed) {
     for (size_t i = 0; i < sizeof BESIDE / sizeof BESIDE[0]; i++) {
         int too_few = BESIDE[i].list < 0 || BESIDE[i].values < 0;
@@ -524,8 +526,7 @@ static void check_scans(void) {
         const char *example;
         struct segment segment;
         uint64_t listed;
-        uint32_t hard[16];
-        uint64_t residues[16];
+        uint64_t hard[16], residues[16];
     } accepted[] = {
         {"P9, window 6", {45, 14, 44, 16, 6}, 2, {3, 6}, {2, 5}},
         {"P9, window 3", {45, 14, 44, 16, 3}, 1, {3}, {2}},
@@ -553,7 +554,7 @@ static void check_scans(void) {
 /* ---- the search of a domain ---- */
 
 struct domain {
-    uint64_t modulus, value, slope;
+    uint64_t origin, modulus, value, slope;
     int64_t curve;
     uint64_t count, window;
 };
@@ -561,7 +562,7 @@ struct domain {
 struct answer {
     uint8_t marks[8];
     uint64_t searched[2]; /* 1 for cleared or 0 for possible, how many are hard */
-    uint32_t hard[16];
+    uint64_t hard[16]; /* as they are listed, origin + x */
     uint64_t values[16];
 };
 
@@ -576,8 +577,8 @@ static void check_domain_into(struct columns lent, const char *example, struct d
         set(&wanted[3], answer->searched, 2);
     }
     uint32_t number =
-        geyserdish_search_domain(d.modulus, d.value, d.slope, d.curve, d.count, d.window, lend(&has[0]), has[0].places,
-                                 lend(&has[1]), has[1].places, lend(&has[2]), lend(&has[3]));
+        geyserdish_search_domain(d.origin, d.modulus, d.value, d.slope, d.curve, d.count, d.window, lend(&has[0]),
+                                 has[0].places, lend(&has[1]), has[1].places, lend(&has[2]), lend(&has[3]));
     count_check("domain", with_places(example, &lent).line, number, refusal, has, wanted, 4);
 }
 
@@ -603,7 +604,9 @@ static void check_domain(const char *example, struct domain d, const struct answ
  * only the parts with a 0 come near a multiple of 45. J's values are the residues of P2's segment, which are written above. The values of
  * 2.6 are 3, 5, 6, 6, 5, 3, 0, 41 with curve -1, 42, 40, 39, 39, 40, 42, 0, 4 with curve 1, and 2^62 - 1, 0, 1 with modulus 2^62. The
  * covering segments of the two curves have the window 9 + 28 and at argument 0 the residues 7 and 29, so that they are possible. In all
- * three each argument is a part of its own, and possible where it is hard.
+ * three each argument is a part of its own, and possible where it is hard. In 2.7 an origin moves the list and nothing else. The last
+ * domain there has the values 2^62 - 1048575, .., 2^62 - 1, 0. The regular search goes on to the period, below which the value 0 comes,
+ * so that it is possible; a fine search judges the arguments of its part alone, of which only the last of all has a value below 1.
  */
 static void check_accepted_domains(void) {
     static const struct {
@@ -611,51 +614,73 @@ static void check_accepted_domains(void) {
         struct domain domain;
         struct answer answer;
     } accepted[] = {
-        {"J", {45, 44, 31, 0, 16, 3}, {{2, 2, 1, 1, 1, 1, 1, 1}, {0, 2}, {0, 3}, {44, 2}}},
-        {"2.1, window 2", {10, 3, 3, 0, 8, 2}, {{1, 1, 2, 1, 1, 1, 2, 1}, {0, 2}, {2, 6}, {9, 1}}},
-        {"2.1, window 5 of 11", {11, 5, 0, 0, 8, 5}, {{0, 0, 0, 0, 0, 0, 0, 0}, {1, 0}, {0}, {0}}},
+        {"J", {0, 45, 44, 31, 0, 16, 3}, {{2, 2, 1, 1, 1, 1, 1, 1}, {0, 2}, {0, 3}, {44, 2}}},
+        {"2.1, window 2", {0, 10, 3, 3, 0, 8, 2}, {{1, 1, 2, 1, 1, 1, 2, 1}, {0, 2}, {2, 6}, {9, 1}}},
+        {"2.1, window 5 of 11", {0, 11, 5, 0, 0, 8, 5}, {{0, 0, 0, 0, 0, 0, 0, 0}, {1, 0}, {0}, {0}}},
         {"2.1, window 6 of 11",
-         {11, 5, 0, 0, 8, 6},
+         {0, 11, 5, 0, 0, 8, 6},
          {{2, 2, 2, 2, 2, 2, 2, 2}, {0, 8}, {0, 1, 2, 3, 4, 5, 6, 7}, {5, 5, 5, 5, 5, 5, 5, 5}}},
-        {"P11, curve 1", {45, 0, 0, 1, 8, 1}, {{2, 2, 1, 1, 1, 1, 1, 1}, {0, 2}, {0, 1}, {0, 0}}},
-        {"P11, curve -1", {45, 0, 0, -1, 8, 1}, {{2, 2, 1, 1, 1, 1, 1, 1}, {0, 2}, {0, 1}, {0, 0}}},
-        {"value 1, curve 1", {45, 1, 0, 1, 8, 1}, {{0, 0, 0, 0, 0, 0, 0, 0}, {1, 0}, {0}, {0}}},
-        {"value 1, curve -1", {45, 1, 0, -1, 8, 1}, {{1, 1, 2, 1, 1, 1, 1, 1}, {0, 1}, {2}, {0}}},
-        {"J with window 1", {45, 44, 31, 0, 16, 1}, {{0, 0, 0, 0, 0, 0, 0, 0}, {1, 0}, {0}, {0}}},
+        {"P11, curve 1", {0, 45, 0, 0, 1, 8, 1}, {{2, 2, 1, 1, 1, 1, 1, 1}, {0, 2}, {0, 1}, {0, 0}}},
+        {"P11, curve -1", {0, 45, 0, 0, -1, 8, 1}, {{2, 2, 1, 1, 1, 1, 1, 1}, {0, 2}, {0, 1}, {0, 0}}},
+        {"value 1, curve 1", {0, 45, 1, 0, 1, 8, 1}, {{0, 0, 0, 0, 0, 0, 0, 0}, {1, 0}, {0}, {0}}},
+        {"value 1, curve -1", {0, 45, 1, 0, -1, 8, 1}, {{1, 1, 2, 1, 1, 1, 1, 1}, {0, 1}, {2}, {0}}},
+        {"J with window 1", {0, 45, 44, 31, 0, 16, 1}, {{0, 0, 0, 0, 0, 0, 0, 0}, {1, 0}, {0}, {0}}},
         {"J with window M",
-         {45, 44, 31, 0, 16, 45},
+         {0, 45, 44, 31, 0, 16, 45},
          {{2, 2, 2, 2, 2, 2, 2, 2}, {0, 16}, {0, 1, 2, 3, 4, 5, 6, 7, 8, 9, 10, 11, 12, 13, 14, 15},
           {44, 30, 16, 2, 33, 19, 5, 36, 22, 8, 39, 25, 11, 42, 28, 14}}},
-        {"modulus 2", {2, 0, 0, 0, 8, 1}, {{2, 2, 2, 2, 2, 2, 2, 2}, {0, 8}, {0, 1, 2, 3, 4, 5, 6, 7}, {0, 0, 0, 0, 0, 0, 0, 0}}},
+        {"modulus 2",
+         {0, 2, 0, 0, 0, 8, 1},
+         {{2, 2, 2, 2, 2, 2, 2, 2}, {0, 8}, {0, 1, 2, 3, 4, 5, 6, 7}, {0, 0, 0, 0, 0, 0, 0, 0}}},
         {"modulus 2^62, window 2^61",
-         {LARGEST, LARGEST / 2, 0, 0, 8, LARGEST / 2},
+         {0, LARGEST, LARGEST / 2, 0, 0, 8, LARGEST / 2},
          {{0, 0, 0, 0, 0, 0, 0, 0}, {1, 0}, {0}, {0}}},
         {"modulus 2^62, window 2^61 + 1",
-         {LARGEST, LARGEST / 2, 0, 0, 8, LARGEST / 2 + 1},
+         {0, LARGEST, LARGEST / 2, 0, 0, 8, LARGEST / 2 + 1},
          {{2, 2, 2, 2, 2, 2, 2, 2}, {0, 8}, {0, 1, 2, 3, 4, 5, 6, 7},
           {LARGEST / 2, LARGEST / 2, LARGEST / 2, LARGEST / 2, LARGEST / 2, LARGEST / 2, LARGEST / 2, LARGEST / 2}}},
         {"modulus 2^62, window 2^62",
-         {LARGEST, LARGEST - 1, 0, 0, 8, LARGEST},
+         {0, LARGEST, LARGEST - 1, 0, 0, 8, LARGEST},
          {{2, 2, 2, 2, 2, 2, 2, 2}, {0, 8}, {0, 1, 2, 3, 4, 5, 6, 7},
           {LARGEST - 1, LARGEST - 1, LARGEST - 1, LARGEST - 1, LARGEST - 1, LARGEST - 1, LARGEST - 1, LARGEST - 1}}},
-        {"curve 1048576", {45, 14, 0, 1048576, 8, 1}, {{1, 1, 2, 1, 1, 1, 1, 1}, {0, 1}, {2}, {0}}},
-        {"curve -1048576", {45, 14, 0, -1048576, 8, 1}, {{1, 1, 1, 1, 1, 1, 1, 1}, {0, 0}, {0}, {0}}},
-        {"count 1048576", {45, 9, 0, 0, 1048576, 9}, {{0, 0, 0, 0, 0, 0, 0, 0}, {1, 0}, {0}, {0}}},
-        {"count 1048575", {45, 9, 0, 0, 1048575, 9}, {{0, 0, 0, 0, 0, 0, 0, 0}, {1, 0}, {0}, {0}}},
-        {"2.2, J with count 12", {45, 44, 31, 0, 12, 3}, {{2, 2, 1, 1, 1, 1, 1, 1}, {0, 2}, {0, 3}, {44, 2}}},
-        {"2.2, J with count 3", {45, 44, 31, 0, 3, 3}, {{2, 1, 1, 3, 3, 3, 3, 3}, {0, 1}, {0}, {44}}},
-        {"2.2, J with count 1", {45, 44, 31, 0, 1, 3}, {{2, 3, 3, 3, 3, 3, 3, 3}, {0, 1}, {0}, {44}}},
-        {"2.2, count 12, curve 1", {45, 0, 40, 1, 12, 2}, {{2, 1, 1, 1, 1, 1, 1, 2}, {0, 2}, {0, 11}, {0, 0}}},
-        {"2.2, count 12, curve -1", {45, 0, 4, -1, 12, 2}, {{2, 1, 1, 1, 1, 2, 1, 1}, {0, 2}, {0, 9}, {0, 0}}},
-        {"2.2, count 3 cleared", {11, 5, 0, 0, 3, 5}, {{0, 0, 0, 0, 0, 0, 0, 0}, {1, 0}, {0}, {0}}},
-        {"count 15, window M", {45, 44, 31, 0, 15, 45},
+        {"curve 1048576", {0, 45, 14, 0, 1048576, 8, 1}, {{1, 1, 2, 1, 1, 1, 1, 1}, {0, 1}, {2}, {0}}},
+        {"curve -1048576", {0, 45, 14, 0, -1048576, 8, 1}, {{1, 1, 1, 1, 1, 1, 1, 1}, {0, 0}, {0}, {0}}},
+        {"count 1048576", {0, 45, 9, 0, 0, 1048576, 9}, {{0, 0, 0, 0, 0, 0, 0, 0}, {1, 0}, {0}, {0}}},
+        {"count 1048575", {0, 45, 9, 0, 0, 1048575, 9}, {{0, 0, 0, 0, 0, 0, 0, 0}, {1, 0}, {0}, {0}}},
+        {"2.2, J with count 12", {0, 45, 44, 31, 0, 12, 3}, {{2, 2, 1, 1, 1, 1, 1, 1}, {0, 2}, {0, 3}, {44, 2}}},
+        {"2.2, J with count 3", {0, 45, 44, 31, 0, 3, 3}, {{2, 1, 1, 3, 3, 3, 3, 3}, {0, 1}, {0}, {44}}},
+        {"2.2, J with count 1", {0, 45, 44, 31, 0, 1, 3}, {{2, 3, 3, 3, 3, 3, 3, 3}, {0, 1}, {0}, {44}}},
+        {"2.2, count 12, curve 1", {0, 45, 0, 40, 1, 12, 2}, {{2, 1, 1, 1, 1, 1, 1, 2}, {0, 2}, {0, 11}, {0, 0}}},
+        {"2.2, count 12, curve -1", {0, 45, 0, 4, -1, 12, 2}, {{2, 1, 1, 1, 1, 2, 1, 1}, {0, 2}, {0, 9}, {0, 0}}},
+        {"2.2, count 3 cleared", {0, 11, 5, 0, 0, 3, 5}, {{0, 0, 0, 0, 0, 0, 0, 0}, {1, 0}, {0}, {0}}},
+        {"count 15, window M", {0, 45, 44, 31, 0, 15, 45},
          {{2, 2, 2, 2, 2, 2, 2, 2}, {0, 15}, {0, 1, 2, 3, 4, 5, 6, 7, 8, 9, 10, 11, 12, 13, 14},
           {44, 30, 16, 2, 33, 19, 5, 36, 22, 8, 39, 25, 11, 42, 28}}},
-        {"2.6, curve -1", {45, 3, 2, -1, 8, 5}, {{2, 1, 1, 1, 1, 2, 2, 2}, {0, 4}, {0, 5, 6, 7}, {3, 3, 0, 41}}},
-        {"2.6, curve 1", {45, 42, 43, 1, 8, 5}, {{2, 1, 1, 1, 1, 2, 2, 2}, {0, 4}, {0, 5, 6, 7}, {42, 42, 0, 4}}},
+        {"2.6, curve -1", {0, 45, 3, 2, -1, 8, 5}, {{2, 1, 1, 1, 1, 2, 2, 2}, {0, 4}, {0, 5, 6, 7}, {3, 3, 0, 41}}},
+        {"2.6, curve 1", {0, 45, 42, 43, 1, 8, 5}, {{2, 1, 1, 1, 1, 2, 2, 2}, {0, 4}, {0, 5, 6, 7}, {42, 42, 0, 4}}},
         {"2.6, modulus 2^62",
-         {LARGEST, LARGEST - 1, 1, 0, 3, 2},
+         {0, LARGEST, LARGEST - 1, 1, 0, 3, 2},
          {{2, 2, 2, 3, 3, 3, 3, 3}, {0, 3}, {0, 1, 2}, {LARGEST - 1, 0, 1}}},
+        {"2.7, J with origin 1", {1, 45, 44, 31, 0, 16, 3}, {{2, 2, 1, 1, 1, 1, 1, 1}, {0, 2}, {1, 4}, {44, 2}}},
+        {"2.7, J with origin 2^32 - 1",
+         {UINT32_MAX, 45, 44, 31, 0, 16, 3},
+         {{2, 2, 1, 1, 1, 1, 1, 1}, {0, 2}, {UINT64_C(4294967295), UINT64_C(4294967298)}, {44, 2}}},
+        {"2.7, J with origin 2^52 - 1",
+         {TOP - 1, 45, 44, 31, 0, 16, 3},
+         {{2, 2, 1, 1, 1, 1, 1, 1}, {0, 2}, {UINT64_C(4503599627370495), UINT64_C(4503599627370498)}, {44, 2}}},
+        {"2.7, J with origin 2^52",
+         {TOP, 45, 44, 31, 0, 16, 3},
+         {{2, 2, 1, 1, 1, 1, 1, 1}, {0, 2}, {UINT64_C(4503599627370496), UINT64_C(4503599627370499)}, {44, 2}}},
+        {"2.7, origin 2^52, curve -1",
+         {TOP, 45, 3, 2, -1, 8, 5},
+         {{2, 1, 1, 1, 1, 2, 2, 2}, {0, 4}, {TOP, TOP + 5, TOP + 6, TOP + 7}, {3, 3, 0, 41}}},
+        {"2.7, origin 2^52, modulus 2^62",
+         {TOP, LARGEST, LARGEST - 1, 1, 0, 3, 2},
+         {{2, 2, 2, 3, 3, 3, 3, 3}, {0, 3}, {TOP, TOP + 1, TOP + 2}, {LARGEST - 1, 0, 1}}},
+        {"2.7, origin 2^52, cleared", {TOP, 45, 44, 31, 0, 16, 1}, {{0, 0, 0, 0, 0, 0, 0, 0}, {1, 0}, {0}, {0}}},
+        {"2.7, the largest argument",
+         {TOP, LARGEST, LARGEST - 1048575, 1, 0, 1048576, 1},
+         {{1, 1, 1, 1, 1, 1, 1, 2}, {0, 1}, {UINT64_C(4503599628419071)}, {0}}},
     };
     for (size_t i = 0; i < sizeof accepted / sizeof accepted[0]; i++) {
         check_domain(accepted[i].example, accepted[i].domain, &accepted[i].answer);
@@ -668,28 +693,42 @@ static void check_refused_domains(void) {
         struct domain domain;
         uint32_t refusal;
     } refused[] = {
-        {"modulus 1", {1, 0, 0, 0, 16, 1}, 1},
-        {"modulus 2^62 + 1", {LARGEST + 1, 44, 31, 0, 16, 3}, 1},
-        {"slope M", {45, 44, 45, 0, 16, 3}, 2},
-        {"value M", {45, 45, 31, 0, 16, 3}, 3},
-        {"count 0", {45, 44, 31, 0, 0, 3}, 4},
-        {"count 1048577", {45, 44, 31, 0, 1048577, 3}, 4},
-        {"count 1048584", {45, 44, 31, 0, 1048584, 3}, 4},
-        {"window 0", {45, 44, 31, 0, 16, 0}, 5},
-        {"window M + 1", {45, 44, 31, 0, 16, 46}, 5},
-        {"curve 1048577", {45, 44, 31, 1048577, 16, 3}, 6},
-        {"curve -1048577", {45, 44, 31, -1048577, 16, 3}, 6},
-        {"curve 2^63 - 1", {45, 44, 31, INT64_MAX, 16, 3}, 6},
-        {"curve -2^63", {45, 44, 31, INT64_MIN, 16, 3}, 6},
-        {"nothing accepted", {1, 1, 1, 1048577, 0, 2}, 1},
-        {"only the modulus accepted", {45, 45, 45, 1048577, 0, 46}, 2},
-        {"only modulus and slope accepted", {45, 45, 31, 1048577, 0, 46}, 3},
-        {"window, curve and count not accepted", {45, 44, 31, 1048577, 0, 46}, 4},
-        {"count 0 and window 0", {45, 44, 31, 0, 0, 0}, 4},
-        {"window and curve not accepted", {45, 44, 31, 1048577, 16, 46}, 5},
-        {"window 0 and curve not accepted", {45, 44, 31, 1048577, 16, 0}, 5},
-        {"curve and places not accepted", {45, 44, 31, 1048577, 16, 45}, 6},
-        {"count 1048576, window 10", {45, 9, 0, 0, 1048576, 10}, 7},
+        {"modulus 1", {0, 1, 0, 0, 0, 16, 1}, 1},
+        {"modulus 2^62 + 1", {0, LARGEST + 1, 44, 31, 0, 16, 3}, 1},
+        {"slope M", {0, 45, 44, 45, 0, 16, 3}, 2},
+        {"value M", {0, 45, 45, 31, 0, 16, 3}, 3},
+        {"count 0", {0, 45, 44, 31, 0, 0, 3}, 4},
+        {"count 1048577", {0, 45, 44, 31, 0, 1048577, 3}, 4},
+        {"count 1048584", {0, 45, 44, 31, 0, 1048584, 3}, 4},
+        {"window 0", {0, 45, 44, 31, 0, 16, 0}, 5},
+        {"window M + 1", {0, 45, 44, 31, 0, 16, 46}, 5},
+        {"curve 1048577", {0, 45, 44, 31, 1048577, 16, 3}, 6},
+        {"curve -1048577", {0, 45, 44, 31, -1048577, 16, 3}, 6},
+        {"curve 2^63 - 1", {0, 45, 44, 31, INT64_MAX, 16, 3}, 6},
+        {"curve -2^63", {0, 45, 44, 31, INT64_MIN, 16, 3}, 6},
+        {"nothing accepted", {0, 1, 1, 1, 1048577, 0, 2}, 1},
+        {"only the modulus accepted", {0, 45, 45, 45, 1048577, 0, 46}, 2},
+        {"only modulus and slope accepted", {0, 45, 45, 31, 1048577, 0, 46}, 3},
+        {"window, curve and count not accepted", {0, 45, 44, 31, 1048577, 0, 46}, 4},
+        {"count 0 and window 0", {0, 45, 44, 31, 0, 0, 0}, 4},
+        {"window and curve not accepted", {0, 45, 44, 31, 1048577, 16, 46}, 5},
+        {"window 0 and curve not accepted", {0, 45, 44, 31, 1048577, 16, 0}, 5},
+        {"curve and places not accepted", {0, 45, 44, 31, 1048577, 16, 45}, 6},
+        {"count 1048576, window 10", {0, 45, 9, 0, 0, 1048576, 10}, 7},
+        {"origin 2^52 + 1", {TOP + 1, 45, 44, 31, 0, 16, 3}, 11},
+        {"origin 2^53", {2 * TOP, 45, 44, 31, 0, 16, 3}, 11},
+        {"origin 2^63", {UINT64_C(1) << 63, 45, 44, 31, 0, 16, 3}, 11},
+        {"origin 2^64 - 1", {UINT64_MAX, 45, 44, 31, 0, 16, 3}, 11},
+        {"origin 2^64 - 1, cleared without it", {UINT64_MAX, 45, 44, 31, 0, 16, 1}, 11},
+        {"origin and places not accepted", {TOP + 1, 45, 44, 31, 0, 16, 45}, 11},
+        {"origin 2^52, places not accepted", {TOP, 45, 44, 31, 0, 16, 45}, 7},
+        {"curve and origin not accepted", {TOP + 1, 45, 44, 31, 1048577, 16, 3}, 6},
+        {"curve, origin and places not accepted", {UINT64_MAX, 45, 44, 31, -1048577, 16, 45}, 6},
+        {"window and origin not accepted", {UINT64_MAX, 45, 44, 31, 0, 16, 0}, 5},
+        {"count and origin not accepted", {UINT64_MAX, 45, 44, 31, 0, 0, 3}, 4},
+        {"value and origin not accepted", {UINT64_MAX, 45, 45, 31, 0, 16, 3}, 3},
+        {"slope and origin not accepted", {UINT64_MAX, 45, 44, 45, 0, 16, 3}, 2},
+        {"modulus and origin not accepted", {UINT64_MAX, 1, 0, 0, 0, 16, 1}, 1},
     };
     for (size_t i = 0; i < sizeof refused / sizeof refused[0]; i++) {
         for (size_t j = 0; j < sizeof REFUSED_PLACES / sizeof REFUSED_PLACES[0]; j++) {
@@ -704,16 +743,22 @@ static void check_domains_with_null(void) {
     struct columns lent[WITH_NULL];
     set_with_null(lent);
     for (size_t i = 0; i < WITH_NULL; i++) {
-        check_domain_into(lent[i], "J with window 1", (struct domain){45, 44, 31, 0, 16, 1}, 0, &cleared);
-        check_domain_into(lent[i], "J with window 0", (struct domain){45, 44, 31, 0, 16, 0}, 5, NULL);
-        check_domain_into(lent[i], "J", (struct domain){45, 44, 31, 0, 16, 3}, 7, NULL);
-        check_domain_into(lent[i], "count 0", (struct domain){45, 44, 31, 0, 0, 3}, 4, NULL);
+        check_domain_into(lent[i], "J with window 1", (struct domain){0, 45, 44, 31, 0, 16, 1}, 0, &cleared);
+        check_domain_into(lent[i], "J with window 0", (struct domain){0, 45, 44, 31, 0, 16, 0}, 5, NULL);
+        check_domain_into(lent[i], "J", (struct domain){0, 45, 44, 31, 0, 16, 3}, 7, NULL);
+        check_domain_into(lent[i], "count 0", (struct domain){0, 45, 44, 31, 0, 0, 3}, 4, NULL);
+        struct domain moved = {TOP, 45, 44, 31, 0, 16, 1};
+        check_domain_into(lent[i], "J with origin 2^52 and window 1", moved, 0, &cleared);
+        moved.window = 3;
+        check_domain_into(lent[i], "J with origin 2^52", moved, 7, NULL);
+        moved.origin++;
+        check_domain_into(lent[i], "J with origin 2^52 + 1", moved, 11, NULL);
     }
 }
 
 /* ---- the range of a list ---- */
 
-static void check_range(struct lent list, const char *example, uint32_t lo, uint32_t hi, uint64_t start, uint64_t count) {
+static void check_range(struct lent list, const char *example, uint64_t lo, uint64_t hi, uint64_t start, uint64_t count) {
     struct lent has[2] = {list, fresh("start", 8, 1)};
     struct lent wanted[2] = {has[0], has[1]};
     set(&wanted[1], &start, 1);
@@ -721,13 +766,13 @@ static void check_range(struct lent list, const char *example, uint32_t lo, uint
     count_check("range", example, number, count, has, wanted, 2);
 }
 
+/* Those with 2^32 or more are such that 32 bits of an entry or of a bound do not tell. */
 static void check_ranges(void) {
     static const struct {
         const char *example;
         size_t places;
-        uint32_t entries[12];
-        uint32_t lo, hi;
-        uint64_t start, count;
+        uint64_t entries[12];
+        uint64_t lo, hi, start, count;
     } examples[] = {
         {"3 6 9 from 0 to 10", 3, {3, 6, 9}, 0, 10, 0, 3},
         {"3 6 9 from 0 to 2^32 - 1", 3, {3, 6, 9}, 0, UINT32_MAX, 0, 3},
@@ -749,9 +794,27 @@ static void check_ranges(void) {
         {"10 to 120 by tens, from 35 to 95", 12, {10, 20, 30, 40, 50, 60, 70, 80, 90, 100, 110, 120}, 35, 95, 3, 6},
         {"10 to 110 by tens and 110, from 35 to 95", 12, {10, 20, 30, 40, 50, 60, 70, 80, 90, 100, 110, 110}, 35, 95, 0, 0},
         {"no entries", 0, {0}, 0, 10, 0, 0},
+        {"3 6 9 from 4 to 2^32", 3, {3, 6, 9}, 4, WORD, 1, 2},
+        {"3 6 9 from 2^32 to 2^32 + 10", 3, {3, 6, 9}, WORD, WORD + 10, 3, 0},
+        {"3 6 9 from 2^32 to 10, lo above hi", 3, {3, 6, 9}, WORD, 10, 0, 0},
+        {"3 6 9 from 0 to 2^64 - 1", 3, {3, 6, 9}, 0, UINT64_MAX, 0, 3},
+        {"2^32 - 1 and 2^32 from 2^32 - 1 to 2^32", 2, {WORD - 1, WORD}, WORD - 1, WORD, 0, 1},
+        {"2^32 - 1 and 2^32 from 2^32 to 2^32 + 1", 2, {WORD - 1, WORD}, WORD, WORD + 1, 1, 1},
+        {"equal lower halves, from 2^32 to 2^33", 3, {5, WORD + 5, 2 * WORD + 5}, WORD, 2 * WORD, 1, 1},
+        {"equal lower halves, from 6 to 2^33 + 6", 3, {5, WORD + 5, 2 * WORD + 5}, 6, 2 * WORD + 6, 1, 2},
+        {"lower halves that descend, from 0 to 2^64 - 1", 3, {2, WORD + 1, 2 * WORD}, 0, UINT64_MAX, 0, 3},
+        {"lower halves that descend, from 2^32 to 2^33", 3, {2, WORD + 1, 2 * WORD}, WORD, 2 * WORD, 1, 1},
+        {"2^32 + 1, 2 and 3, descends", 3, {WORD + 1, 2, 3}, 0, UINT64_MAX, 0, 0},
+        {"2^32 + 5 and 5, descends", 2, {WORD + 5, 5}, 0, UINT64_MAX, 0, 0},
+        {"2.7, J's list from 2^52 to 2^52 + 3", 2, {TOP, TOP + 3}, TOP, TOP + 3, 0, 1},
+        {"2.7, J's list from 2^52 + 1 to 2^52 + 4", 2, {TOP, TOP + 3}, TOP + 1, TOP + 4, 1, 1},
+        {"2.7, J's list from 0 to 16", 2, {TOP, TOP + 3}, 0, 16, 0, 0},
+        {"2.7, J's list from 2^52 + 4 to 2^64 - 1", 2, {TOP, TOP + 3}, TOP + 4, UINT64_MAX, 2, 0},
+        {"0 and 2^64 - 1 from 0 to 2^64 - 1", 2, {0, UINT64_MAX}, 0, UINT64_MAX, 0, 1},
+        {"0 and 2^64 - 1 from 1 to 2^64 - 1", 2, {0, UINT64_MAX}, 1, UINT64_MAX, 1, 0},
     };
     for (size_t i = 0; i < sizeof examples / sizeof examples[0]; i++) {
-        struct lent list = fresh("list", 4, examples[i].places);
+        struct lent list = fresh("list", 8, examples[i].places);
         set(&list, examples[i].entries, examples[i].places);
         check_range(list, examples[i].example, examples[i].lo, examples[i].hi, examples[i].start, examples[i].count);
     }

@@ -1,6 +1,6 @@
-//! Job texts through the built job program, whose path is the first argument: settled and random jobs against the reference,
-//! malformed texts of every kind, texts that arrive in pieces, output that nobody reads. What has to be printed follows from
-//! the numbers that a text was made of, or from how it was spoilt, never from the program.
+//! Job texts of six lines and of seven through the built job program, whose path is the first argument: settled and random jobs
+//! against the reference, malformed texts of every kind, texts that arrive in pieces, output that nobody reads. What has to be
+//! printed follows from the numbers that a text was made of, or from how it was spoilt, never from the program.
 
 mod drawn;
 mod harness;
@@ -8,33 +8,35 @@ mod process;
 mod reference;
 mod texts;
 
-use drawn::{one_of, random_count, signed, somewhere};
+use drawn::{one_of, origin, random_count, signed, somewhere};
 use harness::{Random, Run, SEED};
 use process::{ended, piped, piped_after, started, Shown, LIMIT};
-use reference::{Domain, LARGEST, LARGEST_CURVE, MOST, PLACES};
-use std::collections::HashSet;
+use reference::{Domain, LARGEST, LARGEST_CURVE, LARGEST_ORIGIN, MOST, PLACES};
+use std::collections::{BTreeMap, HashSet};
 use std::fs::{read_dir, File};
 use std::os::unix::process::ExitStatusExt;
 use std::path::{Path, PathBuf};
 use std::process::Child;
 use std::time::Duration;
 use std::{env, fmt, fs, iter, thread};
-use texts::{J, LONGEST};
+use texts::{J, LONGEST, LONGEST_MOVED, MOVED_J};
 
-const P11: Domain = Domain { modulus: 45, value: 0, slope: 0, curve: 1, count: 8, window: 1 };
+const P11: Domain = Domain { origin: 0, modulus: 45, value: 0, slope: 0, curve: 1, count: 8, window: 1 };
 
 /// Every odd value once. -4,095 comes at argument 2^20 - 4,096, and from there on all arguments are hard: as many as there are places, of
 /// seven digits each.
-const ODD_VALUES: Domain = Domain { modulus: 2 * MOST, value: 4097, slope: 2, curve: 0, count: MOST, window: 4096 };
+const ODD_VALUES: Domain =
+    Domain { origin: 0, modulus: 2 * MOST, value: 4097, slope: 2, curve: 0, count: MOST, window: 4096 };
 
 /// The values rise by 1 and end with the modulus less 1. The last 4,096 arguments are hard, as many as there are places: of seven digits
 /// each, and their values of nineteen.
 const LONGEST_LIST: Domain =
-    Domain { modulus: LARGEST, value: LARGEST - MOST, slope: 1, curve: 0, count: MOST, window: 4097 };
+    Domain { origin: 0, modulus: LARGEST, value: LARGEST - MOST, slope: 1, curve: 0, count: MOST, window: 4097 };
 
 /// The value of 1,010,000 + k is the modulus less k(k+1) + 1, and it is hard for k from -2,048 to 2,047: as many arguments as above, of as
 /// many digits, and their values too.
 const LONGEST_CURVED_LIST: Domain = Domain {
+    origin: 0,
     modulus: LARGEST,
     value: LARGEST - 1 - 1_010_000 * 1_009_999,
     slope: 2 * 1_009_999,
@@ -43,9 +45,13 @@ const LONGEST_CURVED_LIST: Domain = Domain {
     window: 2 + 2047 * 2048,
 };
 
-/// The bytes of the longest text and of the longest output: of three lines of 15, 15 and 12 bytes, and 4,096 lines of 43.
-const LONGEST_TEXT: usize = 165;
-const LONGEST_OUTPUT: usize = 176_170;
+/// The bytes of the longest text on six lines and on seven, and of the longest output with the origin 0 and with the largest: three
+/// lines of 15, 15 and 12 bytes, and 4,096 lines of 43, or of 52 where the arguments have sixteen digits.
+const LONGEST_TEXTS: [usize; 2] = [165, 193];
+const LONGEST_OUTPUTS: [usize; 2] = [176_170, 213_034];
+
+/// The refusals of a job.
+const REFUSALS: [u32; 9] = [1, 2, 3, 4, 5, 6, 7, 8, 11];
 
 /// The number of the signal that ends a program whose output nobody reads.
 const SIGPIPE: i32 = 13;
@@ -56,18 +62,29 @@ struct Case {
     output: String,
 }
 
-/// The job of a domain, by the reference.
+/// The job of a domain, by the reference: on six lines where its origin is 0, and else on seven.
 fn job(domain: Domain) -> Case {
     Case { text: domain.text().into(), output: domain.printed() }
 }
 
-/// The domain of a well-formed text: its numbers are read leniently, and then the text has to be theirs.
+/// The same on seven lines whatever the origin is.
+fn job_with_origin(domain: Domain) -> Case {
+    Case { text: domain.text_with_origin().into(), output: domain.printed() }
+}
+
+/// The domain of a well-formed text, of six lines or of seven: its numbers are read leniently, and then the text has to be theirs.
 fn reading(text: &[u8]) -> Option<Domain> {
     let text = std::str::from_utf8(text).ok()?;
     let numbers = text.split('\n').filter_map(|line| line.split_once('=')?.1.parse().ok());
-    let [modulus, value, slope, curve, count, window] = numbers.collect::<Vec<i128>>()[..] else { return None };
+    let mut numbers: Vec<i128> = numbers.collect();
+    let six = numbers.len() == 6;
+    if six {
+        numbers.insert(0, 0);
+    }
+    let [origin, modulus, value, slope, curve, count, window] = numbers[..] else { return None };
     let field = |number| u64::try_from(number).ok();
     let domain = Domain {
+        origin: field(origin)?,
         modulus: field(modulus)?,
         value: field(value)?,
         slope: field(slope)?,
@@ -75,7 +92,8 @@ fn reading(text: &[u8]) -> Option<Domain> {
         count: field(count)?,
         window: field(window)?,
     };
-    (domain.text() == text).then_some(domain)
+    let theirs = if six { domain.text() } else { domain.text_with_origin() };
+    (theirs == text).then_some(domain)
 }
 
 /// A text that was made such that 8 refuses it.
@@ -88,7 +106,7 @@ fn malformed(text: impl Into<Vec<u8>>) -> Case {
 /// A text that was made in some way, well formed or not.
 fn either(text: Vec<u8>) -> Case {
     match reading(&text) {
-        Some(domain) => job(domain),
+        Some(domain) => Case { text, output: domain.printed() },
         None => malformed(text),
     }
 }
@@ -137,7 +155,7 @@ struct Tally {
     cleared: usize,
     possible: usize,
     listed: usize,
-    refused: [usize; 8],
+    refused: BTreeMap<u32, usize>,
 }
 
 impl Tally {
@@ -145,7 +163,7 @@ impl Tally {
         let mut tally = Tally { texts: cases.len(), ..Tally::default() };
         for Case { output, .. } in cases {
             if let Some(number) = output.strip_prefix("refused=") {
-                tally.refused[number.trim_end().parse::<usize>().unwrap() - 1] += 1;
+                *tally.refused.entry(number.trim_end().parse().unwrap()).or_default() += 1;
             }
             tally.cleared += output.starts_with("first=cleared") as usize;
             tally.possible += output.starts_with("first=possible") as usize;
@@ -159,7 +177,7 @@ impl Tally {
         self.cleared += other.cleared;
         self.possible += other.possible;
         self.listed += other.listed;
-        self.refused.iter_mut().zip(other.refused).for_each(|(sum, refused)| *sum += refused);
+        other.refused.iter().for_each(|(&number, times)| *self.refused.entry(number).or_default() += times);
     }
 }
 
@@ -169,8 +187,8 @@ impl fmt::Display for Tally {
         if self.cleared + self.possible != 0 {
             write!(f, ", {} cleared, {} possible, {} listed", self.cleared, self.possible, self.listed)?;
         }
-        let refused = (1..).zip(self.refused).filter(|(_, times)| *times != 0);
-        let refused: Vec<String> = refused.map(|(number, times)| format!("{times} by {number}")).collect();
+        let refused = self.refused.iter().map(|(number, times)| format!("{times} by {number}"));
+        let refused: Vec<String> = refused.collect();
         if !refused.is_empty() {
             write!(f, "; refused {}", refused.join(", "))?;
         }
@@ -189,8 +207,8 @@ fn all(program: &str, cases: &[Case]) -> Result<Tally, String> {
     Ok(Tally::of(cases))
 }
 
-/// Document 01's examples that concern domains, as 02 leaves them, some of 2.1 to 2.3 and of 2.6 and others: printed by hand, and by the
-/// reference.
+/// Document 01's examples that concern domains, as 02 leaves them, some of 2.1 to 2.3, of 2.6 and of 2.7 and others: printed by hand,
+/// and by the reference.
 fn settled_examples() -> Vec<Case> {
     let j = "modulus=45\nvalue=44\nslope=31\ncurve=0\ncount=16\nwindow=3\n";
     let j_printed = "first=possible\nparts=22111111\nlisted=2\nargument=0 value=44\nargument=3 value=2\n";
@@ -208,21 +226,32 @@ fn settled_examples() -> Vec<Case> {
         argument=0 value=42\nargument=5 value=42\nargument=6 value=0\nargument=7 value=4\n";
     let about_the_largest = "first=possible\nparts=22233333\nlisted=3\n\
         argument=0 value=4611686018427387903\nargument=1 value=0\nargument=2 value=1\n";
+    let j_moved = "first=possible\nparts=22111111\nlisted=2\n\
+        argument=4503599627370496 value=44\nargument=4503599627370499 value=2\n";
+    let j_moved_by_1 = "first=possible\nparts=22111111\nlisted=2\nargument=1 value=44\nargument=4 value=2\n";
     let examples = [
         (j.into(), j_printed),
+        (format!("origin=0\n{j}"), j_printed),
+        (format!("origin=1\n{j}"), j_moved_by_1),
+        (format!("origin=4503599627370496\n{j}"), j_moved),
+        (format!("origin=4503599627370497\n{j}"), "refused=11\n"),
+        (format!("origin=18446744073709551615\n{j}"), "refused=11\n"),
+        (Domain { window: 1, ..MOVED_J }.text(), cleared),
+        (Domain { window: 46, origin: u64::MAX, ..J }.text(), "refused=5\n"),
+        (Domain { curve: 1_048_577, origin: u64::MAX, ..J }.text(), "refused=6\n"),
         (P11.text(), p11),
         (Domain { curve: -1, ..P11 }.text(), p11),
         (Domain { value: 1, ..P11 }.text(), cleared),
         (Domain { value: 17, ..P11 }.text(), "first=possible\nparts=11111111\nlisted=0\n"),
         (Domain { value: 4, slope: 16, curve: -2, count: 24, window: 2, ..J }.text(), scattered),
         (Domain { modulus: 2, value: 1, slope: 0, window: 1, ..J }.text(), cleared),
-        (Domain { modulus: 10, value: 3, slope: 3, curve: 0, count: 8, window: 2 }.text(), either_side),
-        (Domain { modulus: 11, value: 5, slope: 0, curve: 0, count: 8, window: 5 }.text(), cleared),
-        (Domain { modulus: 11, value: 5, slope: 0, curve: 0, count: 8, window: 6 }.text(), &all_eight),
+        (Domain { modulus: 10, value: 3, slope: 3, curve: 0, count: 8, window: 2, ..J }.text(), either_side),
+        (Domain { modulus: 11, value: 5, slope: 0, curve: 0, count: 8, window: 5, ..J }.text(), cleared),
+        (Domain { modulus: 11, value: 5, slope: 0, curve: 0, count: 8, window: 6, ..J }.text(), &all_eight),
         (Domain { count: 12, ..J }.text(), j_printed),
         (Domain { count: 3, ..J }.text(), "first=possible\nparts=21133333\nlisted=1\nargument=0 value=44\n"),
         (Domain { count: 1, ..J }.text(), "first=possible\nparts=23333333\nlisted=1\nargument=0 value=44\n"),
-        (Domain { modulus: 11, value: 5, slope: 0, curve: 0, count: 3, window: 5 }.text(), cleared),
+        (Domain { modulus: 11, value: 5, slope: 0, curve: 0, count: 3, window: 5, ..J }.text(), cleared),
         (Domain { window: 1, ..J }.text(), cleared),
         (Domain { window: 0, ..J }.text(), "refused=5\n"),
         (Domain { window: 0, count: 0, ..J }.text(), "refused=4\n"),
@@ -234,9 +263,10 @@ fn settled_examples() -> Vec<Case> {
     ];
     let both = |(text, output): (String, &str)| {
         let domain = reading(text.as_bytes()).unwrap();
-        [Case { text: text.into(), output: output.into() }, job(domain)]
+        [output.into(), domain.printed()].map(|output| Case { text: text.clone().into(), output })
     };
-    examples.into_iter().flat_map(both).collect()
+    let too_large = malformed(format!("origin=18446744073709551616\n{j}"));
+    examples.into_iter().flat_map(both).chain([too_large]).collect()
 }
 
 /// The refusal of a job, by hand.
@@ -255,7 +285,7 @@ fn ends_of_ranges() -> Vec<Case> {
     let mut cases = Vec::new();
     cases.extend([0, 1, LARGEST + 1, 1 << 63, u64::MAX].map(|modulus| refused(1, Domain { modulus, ..J })));
     for m in [2, 3, 45, LARGEST - 1, LARGEST] {
-        let least = Domain { modulus: m, value: 0, slope: 0, curve: 0, count: 8, window: 1 };
+        let least = Domain { modulus: m, value: 0, slope: 0, curve: 0, count: 8, window: 1, ..J };
         cases.extend([least, Domain { value: m - 1, slope: m - 1, window: m, ..least }].map(accepted));
     }
     cases.extend([45, 46, (1 << 32) + 31, 1 << 63, u64::MAX].map(|slope| refused(2, Domain { slope, ..J })));
@@ -270,13 +300,19 @@ fn ends_of_ranges() -> Vec<Case> {
         cases.extend([1, LARGEST_CURVE - 1, LARGEST_CURVE].map(|size| accepted(curve(size))));
         cases.extend([LARGEST_CURVE + 1, (1 << 32) + 1, i64::MAX].map(|size| refused(6, curve(size))));
     }
+    let top = LARGEST_ORIGIN;
+    cases.extend([1, (1 << 32) - 1, 1 << 32, top - 1, top].map(|origin| accepted(Domain { origin, ..J })));
+    let above = [top + 1, top + 2, top + (1 << 32), 2 * top, 1 << 63, u64::MAX];
+    cases.extend(above.map(|origin| refused(11, Domain { origin, ..J })));
     cases
 }
 
-/// The largest number that is read on each line and others above what is accepted, and the longest text.
+/// The largest number that is read on each line and others above what is accepted, and the longest texts.
 fn largest_numbers_read() -> Vec<Case> {
-    assert_eq!(LONGEST.text().len(), LONGEST_TEXT);
-    let mut cases: Vec<Case> = [LONGEST, Domain { curve: i64::MAX, ..LONGEST }].map(|domain| refused(1, domain)).into();
+    let longest = [LONGEST, LONGEST_MOVED];
+    assert_eq!(longest.map(|domain| domain.text().len()), LONGEST_TEXTS);
+    let signs = longest.into_iter().flat_map(|domain| [domain, Domain { curve: i64::MAX, ..domain }]);
+    let mut cases: Vec<Case> = signs.map(|domain| refused(1, domain)).collect();
     for number in [u64::MAX, u64::MAX - 1, 1 << 63, (1 << 63) - 1, 10_u64.pow(19), 10_u64.pow(19) - 1] {
         cases.push(refused(1, Domain { modulus: number, ..J }));
         cases.push(refused(2, Domain { slope: number, ..J }));
@@ -285,21 +321,28 @@ fn largest_numbers_read() -> Vec<Case> {
         cases.push(refused(5, Domain { window: number, ..J }));
         let size = number.min(1 << 63) as i64 - 1;
         cases.extend([size, -size].map(|curve| refused(6, Domain { curve, ..J })));
+        cases.push(refused(11, Domain { origin: number, ..J }));
     }
     cases
 }
 
-/// Slopes about each power of ten and of two: 1 is hard, as value and slope make up the modulus.
+/// The powers of ten and of two below two bounds of their exponents.
+fn powers(of_ten: u32, of_two: u32) -> impl Iterator<Item = u64> {
+    (0..of_ten).map(|power| 10_u64.pow(power)).chain((0..of_two).map(|power| 1 << power))
+}
+
+/// Slopes about each power of ten and of two: 1 is hard, as value and slope make up the modulus. Then origins about each of them, of
+/// which those above 2^52 are refused.
 fn numbers_of_every_length() -> Vec<Case> {
     let mut random = Random(SEED + 2);
-    let powers = (0..19).map(|power| 10_u64.pow(power)).chain((0..62).map(|power| 1 << power));
-    let slopes = powers.flat_map(|power| [power - 1, power]).filter(|&slope| slope != 0);
+    let slopes = powers(19, 62).flat_map(|power| [power - 1, power]).filter(|&slope| slope != 0);
     let make = |slope| {
         let most = (1 << random.below(62)).min(LARGEST - slope);
         let value = 1 + random.below(most);
-        job(Domain { modulus: value + slope, value, slope, curve: 0, count: 8, window: 1 })
+        job(Domain { modulus: value + slope, value, slope, curve: 0, count: 8, window: 1, ..J })
     };
-    slopes.map(make).collect()
+    let origins = powers(20, 64).flat_map(|power| [power - 1, power]);
+    slopes.map(make).chain(origins.map(|origin| job_with_origin(Domain { origin, ..J }))).collect()
 }
 
 /// A job to which just the conditions of a set apply, each a bit; there are two for each set.
@@ -309,6 +352,7 @@ fn of_conditions(set: u32, large: bool) -> Domain {
     let modulus = moduli[applies(1) as usize];
     let size = LARGEST_CURVE + applies(6) as i64;
     Domain {
+        origin: applies(11) * if large { u64::MAX } else { LARGEST_ORIGIN + 1 },
         modulus,
         slope: modulus - 1 + applies(2),
         value: modulus - 1 + applies(3),
@@ -329,22 +373,27 @@ fn of_conditions(set: u32, large: bool) -> Domain {
     }
 }
 
-/// Every set of the conditions 1 to 7 in conflict with each other.
+/// Every set of the conditions 1 to 7 and 11 in conflict with each other.
 fn sets_of_conditions() -> Vec<Domain> {
-    let sets = (0..1 << 7).map(|set| set << 1);
+    let numbers = [1, 2, 3, 4, 5, 6, 7, 11];
+    let set_of = |chosen: u32| (0..8).map(|i| (chosen >> i & 1) << numbers[i]).sum::<u32>();
+    let sets = (0..1 << 8).map(set_of);
     let domains = sets.flat_map(|set| [false, true].map(|large| (set, of_conditions(set, large))));
     let just = |(set, domain): (u32, Domain)| {
         let seventh = (0..domain.count).filter(|&x| domain.is_hard(x)).nth(PLACES).is_some();
-        let applying = (1..).zip(domain.conflicts().into_iter().chain([seventh])).filter(|(_, applies)| *applies);
+        let applying = domain.conflicts().into_iter().chain([(7, seventh)]).filter(|(_, applies)| *applies);
         assert_eq!(applying.map(|(number, _)| 1 << number).sum::<u32>(), set, "{domain:?}");
         domain
     };
     domains.map(just).collect()
 }
 
-/// The lowest number wins.
+/// The lowest number wins, but 11 comes before 7. An origin that is accepted changes no refusal.
 fn every_set_of_refusals() -> Vec<Case> {
-    sets_of_conditions().into_iter().map(job).collect()
+    let domains = sets_of_conditions();
+    let moved = domains.iter().filter(|domain| domain.origin == 0);
+    let moved: Vec<Domain> = moved.map(|&domain| Domain { origin: LARGEST_ORIGIN, ..domain }).collect();
+    domains.into_iter().chain(moved).map(job).collect()
 }
 
 /// 8 comes before all of them.
@@ -352,7 +401,11 @@ fn malformed_and_refused() -> Vec<Case> {
     let spoil = |(i, domain): (usize, &Domain)| {
         let text = domain.text();
         let ends = [text.trim_end().into(), text.clone() + "\n", text.clone() + "\0", text.replace('\n', "\r\n")];
-        let numbers = ["modulus=0", "window=+", "curve=00", "count= ", "slope=-"];
+        let numbers = if domain.origin == 0 {
+            ["modulus=0", "window=+", "curve=00", "count= ", "slope=-"]
+        } else {
+            ["origin=0", "origin=+", "origin=-", "origin= ", "origin=\n"]
+        };
         let name = numbers[i % 5].split_inclusive('=').next().unwrap();
         [malformed(ends[i % 4].clone()), malformed(text.replace(name, numbers[i % 5]))]
     };
@@ -373,27 +426,39 @@ fn listing(number: usize, case: Case) -> Case {
     case
 }
 
+/// The longest lists with an origin, of as many arguments as there are places, whose output has so many bytes. Then lists with fewer
+/// arguments, and with one or more too many.
+fn longest_lists(origin: u64, output: usize) -> Vec<Case> {
+    let list = Domain { origin, ..LONGEST_LIST };
+    let curved = Domain { origin, ..LONGEST_CURVED_LIST };
+    let mut cases: Vec<Case> = [list, curved].map(|domain| listing(PLACES, job(domain))).into();
+    assert!(cases.iter().all(|case| case.output.len() == output));
+    cases.push(listing(PLACES - 1, job(Domain { window: list.window - 1, ..list })));
+    cases.push(refused(7, Domain { window: list.window + 1, ..list }));
+    // One argument fewer at either end, and one more.
+    cases.push(listing(PLACES - 2, job(Domain { window: 1 + 2047 * 2048, ..curved })));
+    cases.push(refused(7, Domain { window: 2 + 2048 * 2049, ..curved }));
+    for modulus in [2, 45, LARGEST] {
+        let all = Domain { origin, modulus, window: modulus, ..P11 };
+        cases.extend([4088, 4095, 4096].map(|count| job(Domain { count, ..all })));
+        cases.extend([4097, 4104, MOST].map(|count| refused(7, Domain { count, ..all })));
+    }
+    cases
+}
+
 /// Lists of as many arguments as there are places, of one fewer and one more.
 fn full_lists() -> Vec<Case> {
-    let longest = [LONGEST_LIST, LONGEST_CURVED_LIST];
-    let mut cases: Vec<Case> = longest.map(|domain| listing(PLACES, job(domain))).into();
-    assert!(cases.iter().all(|case| case.output.len() == LONGEST_OUTPUT));
-    cases.push(listing(PLACES - 1, job(Domain { window: LONGEST_LIST.window - 1, ..LONGEST_LIST })));
-    cases.push(refused(7, Domain { window: LONGEST_LIST.window + 1, ..LONGEST_LIST }));
-    // One argument fewer at either end, and one more.
-    cases.push(listing(PLACES - 2, job(Domain { window: 1 + 2047 * 2048, ..LONGEST_CURVED_LIST })));
-    cases.push(refused(7, Domain { window: 2 + 2048 * 2049, ..LONGEST_CURVED_LIST }));
+    let mut cases = longest_lists(0, LONGEST_OUTPUTS[0]);
+    cases.extend(longest_lists(LARGEST_ORIGIN, LONGEST_OUTPUTS[1]));
+    // 11 comes before 7.
+    let far = Domain { origin: LARGEST_ORIGIN + 1, ..LONGEST_LIST };
+    cases.extend([0, 1].map(|more| refused(11, Domain { window: far.window + more, ..far })));
     let earlier = 2 * MOST - 4095 - 2 * 1_000_000;
     cases.extend([4097, earlier].map(|value| listing(PLACES, job(Domain { value, ..ODD_VALUES }))));
     // Of even values an odd number is hard.
     let even = Domain { value: 4096, ..ODD_VALUES };
     cases.push(listing(PLACES - 1, job(even)));
     cases.extend([4097, 5000, MOST].map(|window| refused(7, Domain { window, ..even })));
-    for modulus in [2, 45, LARGEST] {
-        let all = Domain { modulus, window: modulus, ..P11 };
-        cases.extend([4088, 4095, 4096].map(|count| job(Domain { count, ..all })));
-        cases.extend([4097, 4104, MOST].map(|count| refused(7, Domain { count, ..all })));
-    }
     let mut random = Random(SEED + 3);
     for count in [4104, 5000, 8191, 8192, 10_001, 1 << 15, 1 << 15, 1 << 16, 1 << 16, MOST] {
         let modulus = LARGEST >> random.below(20);
@@ -404,7 +469,7 @@ fn full_lists() -> Vec<Case> {
     cases
 }
 
-/// Arguments and counts of the list about each power of ten, and values about each power of ten and of two.
+/// Arguments and counts of the list about each power of ten; values, and arguments with an origin, about each power of ten and of two.
 fn printed_numbers_of_every_length() -> Vec<Case> {
     let mut cases = Vec::new();
     for power in (0..7).map(|power| 10_u64.pow(power)) {
@@ -415,17 +480,19 @@ fn printed_numbers_of_every_length() -> Vec<Case> {
         let listed = [power - 1, power, power + 1].into_iter().filter(|&listed| listed <= PLACES as u64);
         cases.extend(listed.map(|listed| {
             let value = 17 + listed % 2;
-            let domain = Domain { modulus: 8192, value, slope: 2, curve: 0, count: 4096, window: listed.max(1) };
+            let domain = Domain { modulus: 8192, value, slope: 2, curve: 0, count: 4096, window: listed.max(1), ..J };
             assert_eq!(domain.hard().len() as u64, listed);
             job(domain)
         }));
     }
     // All arguments are hard, and their values are the power and the numbers before and after it.
-    let powers = (0..19).map(|power| 10_u64.pow(power)).chain((0..62).map(|power| 1 << power));
-    cases.extend(powers.map(|power| {
-        let all = Domain { modulus: LARGEST, value: power - 1, slope: 1, curve: 0, count: 3, window: LARGEST };
+    cases.extend(powers(19, 62).map(|power| {
+        let all = Domain { modulus: LARGEST, value: power - 1, slope: 1, curve: 0, count: 3, window: LARGEST, ..J };
         listing(3, job(all))
     }));
+    // The arguments are these three numbers, up to 2^52 + 1.
+    let all = Domain { count: 3, window: J.modulus, ..J };
+    cases.extend(powers(16, 53).map(|power| listing(3, job_with_origin(Domain { origin: power - 1, ..all }))));
     cases
 }
 
@@ -475,28 +542,48 @@ fn largest_count() -> Vec<Case> {
     })
 }
 
+fn random_origins() -> Vec<Case> {
+    random_jobs(9, 500, |random| {
+        let most = one_of(random, &[4096, LARGEST - 1]);
+        let (modulus, count) = (1 + random.sized(most), random_count(random, 256));
+        Domain { origin: origin(random), ..somewhere(random, modulus, count) }
+    })
+}
+
+/// Jobs on six lines, and what they print, with the line origin=0 before them: the output stays the same.
+fn origin_0_written() -> Vec<Case> {
+    let random = random_small_moduli().into_iter().take(100).chain(random_large_moduli().into_iter().take(50));
+    let six = settled_examples().into_iter().filter(|case| case.text.starts_with(b"modulus=")).chain(random);
+    six.map(|case| Case { text: [b"origin=0\n", &case.text[..]].concat(), ..case }).collect()
+}
+
 /// Texts whose bytes arrive one by one.
 fn byte_by_byte(program: &str) -> Result<Tally, String> {
-    let mut cases: Vec<Case> = [J, P11, LONGEST].map(job).into();
+    let mut cases: Vec<Case> = [J, P11, LONGEST, MOVED_J, LONGEST_MOVED].map(job).into();
     cases.extend([J.text().trim_end(), &(J.text() + "\n"), &(LONGEST.text() + "\n")].map(malformed));
+    cases.extend([MOVED_J.text().trim_end(), &(LONGEST_MOVED.text() + "\n")].map(malformed));
     for case in &cases {
         case.check_pieces(program, &case.text.chunks(1).collect::<Vec<_>>(), Duration::from_millis(1))?;
     }
     Ok(Tally::of(&cases))
 }
 
-/// J's text in two pieces, cut at every place.
+/// J's text in two pieces, cut at every place, and that with an origin.
 fn two_pieces(program: &str) -> Result<Tally, String> {
-    let cases: Vec<Case> = (1..J.text().len()).map(|_| job(J)).collect();
-    for (at, case) in (1..).zip(&cases) {
-        case.check_pieces(program, &[&case.text[..at], &case.text[at..]], Duration::from_millis(2))?;
+    let mut cases = Vec::new();
+    for domain in [J, MOVED_J] {
+        for at in 1..domain.text().len() {
+            let case = job(domain);
+            case.check_pieces(program, &[&case.text[..at], &case.text[at..]], Duration::from_millis(2))?;
+            cases.push(case);
+        }
     }
     Ok(Tally::of(&cases))
 }
 
 /// A pause before the text, and after it, where then the input ends or goes on.
 fn late_ends(program: &str) -> Result<Tally, String> {
-    let texts = [J.text(), LONGEST.text()].map(String::into_bytes);
+    let texts = [J, LONGEST, MOVED_J, LONGEST_MOVED].map(|domain| domain.text().into_bytes());
     let more: [&[u8]; 5] = [b"", b"\n", b"\0", b"7", &texts[0]];
     let mut cases = Vec::new();
     for (text, more) in texts.iter().flat_map(|text| more.map(|more| (text, more))) {
@@ -510,7 +597,8 @@ fn late_ends(program: &str) -> Result<Tally, String> {
 /// A write that fails is not reported: the program ends as ever where the output is full or closed, and where nobody reads it and
 /// the signal for that is ignored; else with that signal.
 fn unwritable_output(program: &str) -> Result<Tally, String> {
-    let texts = [J.text(), LONGEST_LIST.text(), LONGEST.text(), String::new()];
+    let moved_list = Domain { origin: LARGEST_ORIGIN, ..LONGEST_LIST };
+    let texts = [J.text(), LONGEST_LIST.text(), moved_list.text(), LONGEST.text(), String::new()];
     let firsts = ["trap '' PIPE", "exec >/dev/full", "exec >&-"];
     for text in &texts {
         let as_ever = firsts.map(|first| (piped_after(first, program), None));
@@ -542,7 +630,8 @@ fn unreadable_input(program: &str) -> Result<Tally, String> {
 /// A file of the examples as the program's input: it has to be well formed, and the output the reference's.
 fn example(program: &str, file: &Path) -> Result<Case, String> {
     let text = fs::read(file).map_err(|why| why.to_string())?;
-    let case = job(reading(&text).ok_or("malformed")?);
+    let output = reading(&text).ok_or("malformed")?.printed();
+    let case = Case { text, output };
     let input = File::open(file).map_err(|why| why.to_string())?;
     case.check_process(started(piped(program).stdin(input))?, &[], Duration::ZERO)?;
     Ok(case)
@@ -561,8 +650,9 @@ fn examples(program: &str) -> Result<Tally, String> {
     Ok(Tally::of(&cases))
 }
 
-const MALFORMED: [(&str, fn() -> Vec<Vec<u8>>); 9] = [
+const MALFORMED: [(&str, fn() -> Vec<Vec<u8>>); 10] = [
     ("wrong lines", texts::wrong_lines),
+    ("wrong lines of the origin", texts::wrong_origins),
     ("wrong names", texts::wrong_names),
     ("wrong numbers", texts::wrong_numbers),
     ("too large numbers", texts::too_large_numbers),
@@ -579,7 +669,7 @@ const CHANGED: [(&str, fn() -> Vec<Vec<u8>>); 3] = [
     ("changed texts", texts::changed_texts),
 ];
 
-const JOBS: [(&str, fn() -> Vec<Case>); 13] = [
+const JOBS: [(&str, fn() -> Vec<Case>); 15] = [
     ("settled examples", settled_examples),
     ("ends of ranges", ends_of_ranges),
     ("largest numbers read", largest_numbers_read),
@@ -593,6 +683,8 @@ const JOBS: [(&str, fn() -> Vec<Case>); 13] = [
     ("random moduli from 2^61 to 2^62", random_large_moduli),
     ("count 2^15, moduli about 2^60", realistic_jobs),
     ("counts up to 2^20", largest_count),
+    ("random origins", random_origins),
+    ("origin 0 written and not", origin_0_written),
 ];
 
 const PROCESSES: [(&str, fn(&str) -> Result<Tally, String>); 6] = [
@@ -626,7 +718,7 @@ impl Tests {
 
     fn end(mut self) -> ! {
         let (sum, different) = (self.sum, self.different.len());
-        let few_refused = sum.refused.iter().any(|&times| times < 10);
+        let few_refused = REFUSALS.iter().any(|number| sum.refused.get(number).is_none_or(|&times| times < 10));
         let enough = different >= 5_000 && sum.cleared >= 300 && sum.possible >= 1_000 && !few_refused;
         let sum = format!("{sum}; {different} different");
         self.run.count("as many texts as meant", if enough { Ok(sum) } else { Err(format!("only {sum}")) });

@@ -15,12 +15,19 @@ pub const MOST: u64 = 1 << 20;
 /// The size of the largest curve.
 pub const LARGEST_CURVE: i64 = 1 << 20;
 
+/// The largest origin.
+pub const LARGEST_ORIGIN: u64 = 1 << 52;
+
 /// The places that the job program has for hard arguments, and as many for their values.
 pub const PLACES: usize = 4096;
 
-/// The refusal of the table whose conditions are given in its order: the lowest number that applies, 0 where none does.
-pub fn refusal(conditions: &[bool]) -> u32 {
-    conditions.iter().position(|&applies| applies).map_or(0, |i| i as u32 + 1)
+/// A condition of the table: its number, and whether it applies.
+pub type Condition = (u32, bool);
+
+/// The refusal by conditions in the order in which they are asked: the number of the first that applies, 0 where none does. 01 asks
+/// them in the order of their numbers; 02 says of each later one where it stands.
+pub fn refusal(conditions: &[Condition]) -> u32 {
+    conditions.iter().find(|(_, applies)| *applies).map_or(0, |(number, _)| *number)
 }
 
 /// The refusal of a call that lists the hard arguments and their values: its other one, or 7 where they are more than the places of the
@@ -40,7 +47,7 @@ pub fn modulus_outside(modulus: u64) -> bool {
 
 /// The refusal of a modulus and a step, 0 where there is none.
 pub fn pair_refusal(modulus: u64, step: u64) -> u32 {
-    refusal(&[modulus_outside(modulus), step >= modulus])
+    refusal(&[(1, modulus_outside(modulus)), (2, step >= modulus)])
 }
 
 /// A row of the expansion: theta(i), q(i), k(i+1).
@@ -198,14 +205,14 @@ pub struct Segment {
 }
 
 impl Segment {
-    /// Which of the table's conditions 1 to 5 apply.
-    pub fn conflicts(&self) -> [bool; 5] {
+    /// The table's conditions 1 to 5.
+    pub fn conflicts(&self) -> [Condition; 5] {
         [
-            modulus_outside(self.modulus),
-            self.step >= self.modulus,
-            self.start >= self.modulus,
-            !(1..=MOST).contains(&self.count),
-            !(1..=self.modulus).contains(&self.window),
+            (1, modulus_outside(self.modulus)),
+            (2, self.step >= self.modulus),
+            (3, self.start >= self.modulus),
+            (4, !(1..=MOST).contains(&self.count)),
+            (5, !(1..=self.modulus).contains(&self.window)),
         ]
     }
 
@@ -258,18 +265,19 @@ impl Segment {
     }
 
     /// The hard arguments, by going through them all.
-    pub fn hard(&self) -> Vec<u32> {
-        (0..self.count).filter(|&x| self.residue(x) < self.window).map(|x| x as u32).collect()
+    pub fn hard(&self) -> Vec<u64> {
+        (0..self.count).filter(|&x| self.residue(x) < self.window).collect()
     }
 
-    /// The values beside a list: the residue of each of its arguments.
-    pub fn values(&self, list: &[u32]) -> Vec<u64> {
-        list.iter().map(|&x| self.residue(x as u64)).collect()
+    /// The values beside the list: the residue of each hard argument.
+    pub fn values(&self, hard: &[u64]) -> Vec<u64> {
+        hard.iter().map(|&x| self.residue(x)).collect()
     }
 }
 
 #[derive(Clone, Copy, Debug)]
 pub struct Domain {
+    pub origin: u64,
     pub modulus: u64,
     pub value: u64,
     pub slope: u64,
@@ -279,12 +287,14 @@ pub struct Domain {
 }
 
 impl Domain {
-    /// Which of the table's conditions 1 to 6 apply: 1 to 5 are a segment's, with the slope for its step and the value for its start.
-    pub fn conflicts(&self) -> [bool; 6] {
-        let Domain { modulus, value, slope, curve, count, window } = *self;
+    /// The table's conditions 1 to 6, and 11, which 02 puts after 6 and before 7. 1 to 5 are a segment's, with the slope for its step
+    /// and the value for its start.
+    pub fn conflicts(&self) -> [Condition; 7] {
+        let Domain { origin, modulus, value, slope, curve, count, window } = *self;
         let [first, second, third, fourth, fifth] =
             Segment { modulus, step: slope, start: value, count, window }.conflicts();
-        [first, second, third, fourth, fifth, !(-LARGEST_CURVE..=LARGEST_CURVE).contains(&curve)]
+        let sixth = (6, !(-LARGEST_CURVE..=LARGEST_CURVE).contains(&curve));
+        [first, second, third, fourth, fifth, sixth, (11, origin > LARGEST_ORIGIN)]
     }
 
     pub fn refusal(&self) -> u32 {
@@ -296,7 +306,7 @@ impl Domain {
         number.rem_euclid(self.modulus as i128) as u64
     }
 
-    /// The domain without its window.
+    /// The domain without its origin and its window.
     pub fn parabola(&self) -> [u64; 5] {
         [self.modulus, self.value, self.slope, self.curve as u64, self.count]
     }
@@ -318,14 +328,19 @@ impl Domain {
         self.distance(x) < self.window
     }
 
-    /// The hard arguments, by going through them all.
-    pub fn hard(&self) -> Vec<u32> {
-        (0..self.count).filter(|&x| self.is_hard(x)).map(|x| x as u32).collect()
+    /// The hard arguments x, by going through them all.
+    pub fn hard(&self) -> Vec<u64> {
+        (0..self.count).filter(|&x| self.is_hard(x)).collect()
     }
 
-    /// The values beside a list: V(x) of each of its arguments.
-    pub fn values(&self, list: &[u32]) -> Vec<u64> {
-        list.iter().map(|&x| self.value_at(x as u64)).collect()
+    /// The list of the hard arguments: origin + x for each.
+    pub fn list(&self, hard: &[u64]) -> Vec<u64> {
+        hard.iter().map(|&x| self.origin + x).collect()
+    }
+
+    /// The values beside the list: V(x) for each, whatever the origin is.
+    pub fn values(&self, hard: &[u64]) -> Vec<u64> {
+        hard.iter().map(|&x| self.value_at(x)).collect()
     }
 
     /// D = |s|·N(N-1)/2.
@@ -359,13 +374,15 @@ impl Domain {
         starts
     }
 
-    /// The eight parts, domains of their own, some of which may have no argument.
+    /// The eight parts, domains of their own, some of which may have no argument. The one that begins at h has the domain's origin + h
+    /// for its own.
     pub fn parts(&self) -> [Domain; 8] {
         let starts = self.starts();
         [0, 1, 2, 3, 4, 5, 6, 7].map(|part| {
             let h = starts[part];
             let slope = self.reduced(self.slope as i128 + self.curve as i128 * h as i128);
-            Domain { value: self.value_at(h), slope, count: starts[part + 1] - h, ..*self }
+            let (origin, value, count) = (self.origin + h, self.value_at(h), starts[part + 1] - h);
+            Domain { origin, value, slope, count, ..*self }
         })
     }
 
@@ -394,13 +411,27 @@ impl Domain {
         })
     }
 
-    /// The text of the domain's job.
-    pub fn text(&self) -> String {
-        let Domain { modulus, value, slope, curve, count, window } = self;
+    /// The lines of the domain's job but the origin's.
+    fn six_lines(&self) -> String {
+        let Domain { modulus, value, slope, curve, count, window, .. } = self;
         format!("modulus={modulus}\nvalue={value}\nslope={slope}\ncurve={curve}\ncount={count}\nwindow={window}\n")
     }
 
-    /// What the job program prints for that text.
+    /// The text of the domain's job on seven lines, the origin's first.
+    pub fn text_with_origin(&self) -> String {
+        format!("origin={}\n{}", self.origin, self.six_lines())
+    }
+
+    /// The text of the domain's job: on six lines where the origin is 0, and else on seven.
+    pub fn text(&self) -> String {
+        if self.origin == 0 {
+            self.six_lines()
+        } else {
+            self.text_with_origin()
+        }
+    }
+
+    /// What the job program prints for either text.
     pub fn printed(&self) -> String {
         let hard = if self.refusal() == 0 { self.hard() } else { vec![] };
         let refusal = listing_refusal(self.refusal(), hard.len(), PLACES, PLACES);
@@ -409,14 +440,14 @@ impl Domain {
         }
         let first = if self.cleared() { "cleared" } else { "possible" };
         let marks = self.marks().map(|mark| mark.to_string()).concat();
-        let lines = hard.iter().zip(self.values(&hard));
+        let lines = self.list(&hard).into_iter().zip(self.values(&hard));
         let lines: String = lines.map(|(argument, value)| format!("argument={argument} value={value}\n")).collect();
         format!("first={first}\nparts={marks}\nlisted={}\n{lines}", hard.len())
     }
 }
 
 /// The range of a list between two bounds (01: the cut-out), as its start and its count.
-pub fn range(list: &[u32], lo: u32, hi: u32) -> (usize, usize) {
+pub fn range(list: &[u64], lo: u64, hi: u64) -> (usize, usize) {
     if lo > hi || !list.windows(2).all(|pair| pair[0] < pair[1]) {
         return (0, 0);
     }

@@ -146,7 +146,7 @@ promised =
           through (scan-number-is (segment M a b N w) _) (refuses (scan-checks (segment M a b N w) (length list) (length values)) n);
       scan-unchanged = scan-unchanged;
       scan-number = λ n old. refl;
-      domain-is = λ M c0 c1 s N w. refl;
+      domain-is = λ o M c0 c1 s N w. refl;
       domain-accepted = λ d list values. through (domain-number-is (centred-of d) _) (accepts (domain-checks d (length list) (length values)) (omega arith));
       domain-refused = λ d n list values. through (domain-number-is (centred-of d) _) (refuses (domain-checks d (length list) (length values)) n);
       domain-unchanged = domain-unchanged;

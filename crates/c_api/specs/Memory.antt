@@ -62,9 +62,9 @@ unfoldable pub scan-memory : ScanAnswer → (old : ℕ) → ℕ
 scan-memory (scan-variants.Refused n) old = old
 scan-memory (scan-variants.Listed n) old = n
 
--- the domain of a call, from its modulus, value, slope, curve, count and window
-abbrev pub domain-of : (M c0 c1 : ℕ) → (s : ℤ) → (N w : ℕ) → Domain
-domain-of M c0 c1 s N w = record { modulus = M; value = c0; slope = c1; curve = s; count = N; window = w }
+-- the domain of a call, from its origin, modulus, value, slope, curve, count and window
+abbrev pub domain-of : (o M c0 c1 : ℕ) → (s : ℤ) → (N w : ℕ) → Domain
+domain-of o M c0 c1 s N w = record { origin = o; modulus = M; value = c0; slope = c1; curve = s; count = N; window = w }
 
 -- the two numbers that a domain search leaves beside its marks, its list and its values: phase 1's verdict and how many arguments are listed, or what was there
 unfoldable pub domain-memory : DomainAnswer → (old : List ℕ) → List ℕ

@@ -70,8 +70,8 @@ pub record Promised : Type 0 where
       → (scan-memory (scan-answer M a b N w (length list) (length values)) old ≡ old) × (scan-list-after M a b N w (length values) list ≡ list)
       × (scan-values-after M a b N w (length list) values ≡ values)
   pub scan-number : (n old : ℕ) → scan-memory (scan-variants.Listed n) old ≡ n
-  pub domain-is : (M c0 c1 : ℕ) (s : ℤ) (N w : ℕ)
-      → domain-of M c0 c1 s N w ≡ record { modulus = M; value = c0; slope = c1; curve = s; count = N; window = w }
+  pub domain-is : (o M c0 c1 : ℕ) (s : ℤ) (N w : ℕ)
+      → domain-of o M c0 c1 s N w ≡ record { origin = o; modulus = M; value = c0; slope = c1; curve = s; count = N; window = w }
   pub domain-accepted : (d : Domain) (list values : List ℕ) → (domain-refusal (domain-answer d (length list) (length values)) ≡ 0)
       ↔ All-hold (domain-promise.Asked d (length list) (length values))
   pub domain-refused : (d : Domain) (n : ℕ) (list values : List ℕ) → (domain-refusal (domain-answer d (length list) (length values)) ≡ suc n)

@@ -168,7 +168,7 @@ pub extern "C" fn geyserdish_scan_segment(
     start: u64,
     count: u64,
     window: u64,
-    list: &mut [u32],
+    list: &mut [u64],
     values: &mut [u64],
     listed: &mut u64,
 ) -> u32
@@ -187,28 +187,30 @@ pub extern "C" fn geyserdish_scan_segment(
 }
 
 // domain::search_domain: returns 0 or the refusal. Marks, of the eight parts: 0 not looked at, 1 clear, 2 possible and scanned, 3 without arguments.
-// Searched: 1 for cleared or 0 for possible, and how many hard arguments are in the list, and as many values beside them. List, values, marks and
+// Searched: 1 for cleared or 0 for possible, and how many hard arguments x are in the list, each as origin + x, and as many values beside them. List, values, marks and
 // searched are left as they were on a refusal.
 #[no_mangle]
 pub extern "C" fn geyserdish_search_domain(
+    origin: u64,
     modulus: u64,
     value: u64,
     slope: u64,
     curve: i64,
     count: u64,
     window: u64,
-    list: &mut [u32],
+    list: &mut [u64],
     values: &mut [u64],
     marks: &mut [u8; 8],
     searched: &mut [u64; 2],
 ) -> u32
-    ensures { λ r. ⌜ r ≡ domain-refusal (domain-answer (domain-of modulus value slope curve count window) (length (now (list .entry))) (length (now (values .entry)))) ⌝ }
-    ensures { λ r. ⌜ now (list .exit) ≡ list-after (domain-of modulus value slope curve count window) (length (now (values .entry))) (now (list .entry)) ⌝ }
-    ensures { λ r. ⌜ now (values .exit) ≡ values-after (domain-of modulus value slope curve count window) (length (now (list .entry))) (now (values .entry)) ⌝ }
-    ensures { λ r. ⌜ now (marks .exit) ≡ marks-after (domain-of modulus value slope curve count window) (length (now (list .entry))) (length (now (values .entry))) (now (marks .entry)) ⌝ }
-    ensures { λ r. ⌜ now (searched .exit) ≡ domain-memory (domain-answer (domain-of modulus value slope curve count window) (length (now (list .entry))) (length (now (values .entry)))) (now (searched .entry)) ⌝ }
+    ensures { λ r. ⌜ r ≡ domain-refusal (domain-answer (domain-of origin modulus value slope curve count window) (length (now (list .entry))) (length (now (values .entry)))) ⌝ }
+    ensures { λ r. ⌜ now (list .exit) ≡ list-after (domain-of origin modulus value slope curve count window) (length (now (values .entry))) (now (list .entry)) ⌝ }
+    ensures { λ r. ⌜ now (values .exit) ≡ values-after (domain-of origin modulus value slope curve count window) (length (now (list .entry))) (now (values .entry)) ⌝ }
+    ensures { λ r. ⌜ now (marks .exit) ≡ marks-after (domain-of origin modulus value slope curve count window) (length (now (list .entry))) (length (now (values .entry))) (now (marks .entry)) ⌝ }
+    ensures { λ r. ⌜ now (searched .exit) ≡ domain-memory (domain-answer (domain-of origin modulus value slope curve count window) (length (now (list .entry))) (length (now (values .entry)))) (now (searched .entry)) ⌝ }
 {
     let domain = domain::Domain {
+        origin: origin,
         modulus: modulus,
         value: value,
         slope: slope,
@@ -227,7 +229,7 @@ pub extern "C" fn geyserdish_search_domain(
 
 // range::range: returns how many entries the range has, and leaves in start where it begins in the list.
 #[no_mangle]
-pub extern "C" fn geyserdish_range(list: &[u32], lo: u32, hi: u32, start: &mut u64) -> u64
+pub extern "C" fn geyserdish_range(list: &[u64], lo: u64, hi: u64, start: &mut u64) -> u64
     ensures { λ r. ⌜ r ≡ count-of lo hi (now (list .entry)) ⌝ }
     ensures { λ r. ⌜ now (start .exit) ≡ start-of lo hi (now (list .entry)) ⌝ }
 {

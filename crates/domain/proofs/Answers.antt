@@ -2,7 +2,7 @@
 use mathlib.Core.Path.{_≡_, refl, sym, _∙_, ap, ap₂}
 use mathlib.Core.List.{List, [], _∷_, _++_, map}
 use mathlib.Core.Logic.{_↔_, inl, ⊎-elim, by-cases}
-use Prim.Native.Nat.{ℕ, zero, suc, _+_, _-_, _%_, _≤_, _<_, min}
+use Prim.Native.Nat.{ℕ, zero, suc, _+_, _-_, _%_, _^_, _≤_, _<_, min}
 use native.Mathlib.Nat.{zero-add, sub-zero, mod-lt, mod-eq-of-lt, mod-eq-sub-mod}
 use native.Mathlib.Decide.{decLt, ℕ-discrete}
 use native.Mathlib.Omega.{arith}
@@ -27,25 +27,35 @@ use Rattle.arc.specs.Arc.{parabola, arc-verdict}
 use Rattle.arc.specs.Arc as arc
 use Rattle.arc.specs.declared.Arc.{Arc}
 use Rattle.arc.proofs.Promises as arc-promises
-use Rattle.domain.specs.Domain.{parabola-of, centred-of, hard-arguments, hard-values, covering-of, Accepted}
-use Rattle.domain.specs.Scan.{lowered, lowered-values}
+use Rattle.domain.specs.Domain.{parabola-of, centred-of, hard-arguments, hard-values, covering-of, Searchable, Accepted}
+use Rattle.domain.specs.Scan.{listed-from, lowered, lowered-values}
 use Rattle.domain.specs.Phases.{marks-by, marks, report}
-use Rattle.domain.specs.Answer.{room, domain-number, answer-with, domain-answer, marks-after, list-after, values-after, too-few, marks-with, list-with, values-with, hard-residues, scan-number, scan-answer-with}
+use Rattle.domain.specs.Answer.{room, origin-checks, own-checks, domain-number, answer-with, domain-answer, marks-after, list-after, values-after, too-few, marks-with, list-with, values-with, hard-residues, scan-number, scan-answer-with}
 use Rattle.domain.specs.declared.Domain.{Domain}
 use Rattle.domain.specs.declared.DomainAnswer.{DomainAnswer}
 use Rattle.domain.specs.declared.DomainAnswer.the-variants as domain-variants
 use Rattle.domain.specs.declared.ScanAnswer.{ScanAnswer}
 use Rattle.domain.specs.declared.ScanAnswer.the-variants as scan-variants
 use Rattle.domain.specs.declared.phases.Report.{Report}
-use Rattle.domain.proofs.Parts.{none-listed, verdict-is}
+use Rattle.domain.proofs.Parts.{none-listed, otherwise, verdict-is}
 
 -- ---- which domains are accepted
 
-pub accepted-iff : (d : Domain) → (arc.refusal (parabola-of d) ≡ 0) ↔ Accepted d
-accepted-iff d = arc-promises.promised .refusals (parabola-of d) .accepted
+pub searchable-iff : (d : Domain) → (arc.refusal (parabola-of d) ≡ 0) ↔ Searchable d
+searchable-iff d = arc-promises.promised .refusals (parabola-of d) .accepted
+
+-- nothing that is asked of it but for places refuses it
+accepted-iff : (d : Domain) → (first-failing (own-checks d) ≡ 0) ↔ Accepted d
+unfolding arc.refusal
+accepted-iff d =
+    let r = neither-refuses (arc.checks (parabola-of d)) (origin-checks d) (omega arith) in
+    let s = searchable-iff d in (
+      λ e. record { searchable = s .0 (r .0 e .0); origin-within = accepts (origin-checks d) (omega arith) .0 (r .0 e .1) .0 },
+      λ a. r .1 (s .1 (a .searchable), accepted (origin-checks d) (a .origin-within, tt)),
+    )
 
 -- the parabola that the phases search is within the bounds too
-pub searched-in-range : (d : Domain) → Accepted d → In-range (centred-of d)
+pub searched-in-range : (d : Domain) → Searchable d → In-range (centred-of d)
 searched-in-range d a = parabola-promises.promised .centred-correct (parabola-of d) a .in-range
 
 -- a list and values have places enough
@@ -63,10 +73,9 @@ room-refused xs m n h = refused (room xs m n) {n = 7} (inl (refl, λ l. omega (a
 pub number-accepts : (d : Domain) (m n : ℕ) → (domain-number d m n ≡ 0) ↔ (Accepted d × Room (hard-arguments d) m n)
 unfolding domain-number
 number-accepts d m n =
-    let r = neither-refuses (arc.checks (parabola-of d)) (room (hard-arguments d) m n) (omega arith) in
+    let r = neither-refuses (own-checks d) (room (hard-arguments d) m n) (omega arith) in
     let i = room-iff (hard-arguments d) m n in
-    let a = accepted-iff d in
-    (λ e. let h = r .0 e in (a .0 (unfold arc.refusal in h .0), i .0 (h .1)), λ h. r .1 (unfold arc.refusal in a .1 (h .0), i .1 (h .1)))
+    let a = accepted-iff d in (λ e. let h = r .0 e in (a .0 (h .0), i .0 (h .1)), λ h. r .1 (a .1 (h .0), i .1 (h .1)))
 
 -- of the numbers 1 to 5 it has the one that the segment with its slope for the step and its value for the start has
 pub number-as-segment : (d : Domain) (list-places value-places : ℕ) {n : ℕ} → 1 ≤ n → n ≤ 5
@@ -74,10 +83,10 @@ pub number-as-segment : (d : Domain) (list-places value-places : ℕ) {n : ℕ} 
 unfolding domain-number segment.refusal
 number-as-segment d list-places value-places {n} low high =
     let cs = segment.checks (arc.line-of (parabola-of d)) in
-    let ds = arc.curve-checks (parabola-of d) ++ room (hard-arguments d) list-places value-places in (
+    let ds = arc.curve-checks (parabola-of d) ++ (origin-checks d ++ room (hard-arguments d) list-places value-places) in (
       λ e. by-cases (ℕ-discrete (first-failing cs) 0)
           (λ z. absurd
-          (⊎-elim (λ h. omega (arith, h .0)) (λ h. ⊎-elim (λ k. omega (arith, k .0)) (λ k. k .1) (h .1))
+          (⊎-elim (λ h. omega (arith, h .0)) (λ h. ⊎-elim (λ k. omega (arith, k .0)) (λ k. ⊎-elim (λ l. omega (arith, l .0)) (λ l. l .1) (k .1)) (h .1))
           (gives ds (omega arith) n .0 (sym (second-of-two cs ds (accepts cs (omega arith) .0 z)) ∙ e, λ z. omega arith))))
           (λ h. sym (first-of-two cs ds refl h) ∙ e),
       λ e. first-of-two cs ds e (λ z. omega (arith, e, z)),
@@ -94,29 +103,29 @@ scan-accepts s m n =
 -- ---- what a number makes of an answer and of the buffers
 
 -- the answer, the marks, the list and the values
-abbrev Leaves : (number raise : ℕ) → Parabola → (old-marks old old-values : List ℕ) → (answer : DomainAnswer) → (new-marks new new-values : List ℕ) → Type 0
-Leaves n raise p old-marks old old-values answer new-marks new new-values =
+abbrev Leaves : (number origin raise : ℕ) → Parabola → (old-marks old old-values : List ℕ) → (answer : DomainAnswer) → (new-marks new new-values : List ℕ) → Type 0
+Leaves n origin raise p old-marks old old-values answer new-marks new new-values =
     (answer ≡ answer-with n p)
-    × ((new-marks ≡ marks-with n p old-marks) × ((new ≡ list-with n p old) × (new-values ≡ values-with n raise p old-values)))
+    × ((new-marks ≡ marks-with n p old-marks) × ((new ≡ list-with n origin p old) × (new-values ≡ values-with n raise p old-values)))
 
-refused-with : (n raise : ℕ) (p : Parabola) (old-marks old old-values : List ℕ) → (n ≡ 0 → ⊥)
-    → Leaves n raise p old-marks old old-values (domain-variants.Refused n) old-marks old old-values
+refused-with : (n origin raise : ℕ) (p : Parabola) (old-marks old old-values : List ℕ) → (n ≡ 0 → ⊥)
+    → Leaves n origin raise p old-marks old old-values (domain-variants.Refused n) old-marks old old-values
 unfolding answer-with unless-refused
-refused-with zero raise p old-marks old old-values h = absurd (h refl)
-refused-with (suc n) raise p old-marks old old-values h = (refl, (refl, (refl, refl)))
+refused-with zero origin raise p old-marks old old-values h = absurd (h refl)
+refused-with (suc n) origin raise p old-marks old old-values h = (refl, (refl, (refl, refl)))
 
 -- ---- phases 2 and 3
 
-module _ (p : Parabola) (raise : ℕ) (old-marks old old-values : List ℕ) where
+module _ (p : Parabola) (origin raise : ℕ) (old-marks old old-values : List ℕ) where
   pub parts-refused : min (length old) (length old-values) < length (hard-list p)
-      → Leaves (too-few p (length old) (length old-values)) raise p old-marks old old-values (domain-variants.Refused 7) old-marks old old-values
+      → Leaves (too-few p (length old) (length old-values)) origin raise p old-marks old old-values (domain-variants.Refused 7) old-marks old old-values
   unfolding too-few
   parts-refused h =
-      rw (room-refused (hard-list p) (length old) (length old-values) h) (refused-with 7 raise p old-marks old old-values (λ z. omega (arith, z)))
+      rw (room-refused (hard-list p) (length old) (length old-values) h) (refused-with 7 origin raise p old-marks old old-values (λ z. omega (arith, z)))
 
   pub parts-searched : verdict regular (covering p) ≡ Possible → Room (hard-list p) (length old) (length old-values) → {r : Report} → r ≡ report p
-      → {new new-values : List ℕ} → (new ≡ overwrite-front (hard-list p) old) × (new-values ≡ overwrite-front (lowered-values raise p) old-values)
-      → Leaves (too-few p (length old) (length old-values)) raise p old-marks old old-values (domain-variants.Searched Possible (r .total)) (r .marks) new new-values
+      → {new new-values : List ℕ} → (new ≡ overwrite-front (listed-from origin p) old) × (new-values ≡ overwrite-front (lowered-values raise p) old-values)
+      → Leaves (too-few p (length old) (length old-values)) origin raise p old-marks old old-values (domain-variants.Searched Possible (r .total)) (r .marks) new new-values
   unfolding too-few answer-with unless-refused report marks-by
   parts-searched v h e f =
       rw (accepted (room (hard-list p) (length old) (length old-values)) (h, tt), v, e, f .0, f .1) (refl, (refl, (refl, refl)))
@@ -133,7 +142,7 @@ raised-lowered M raise v l h =
     ∙ sym (difference-around M (v + raise - M) raise l (omega arith)) ∙ omega arith)
 
 -- the values of what the phases search, lowered, are those of the domain
-values-lowered : (d : Domain) → Accepted d → lowered-values (d .window - 1) (centred-of d) ≡ hard-values d
+values-lowered : (d : Domain) → Searchable d → lowered-values (d .window - 1) (centred-of d) ≡ hard-values d
 unfolding centred
 values-lowered d a =
     let c = parabola-promises.promised .centred-correct (parabola-of d) a in
@@ -151,49 +160,74 @@ Answered d old-marks old old-values answer new-marks new new-values =
 
 module _ (d : Domain) (old-marks old old-values : List ℕ) where
   -- a refusal before anything is searched
-  pub domain-refused : {n : ℕ} → n ≡ arc.refusal (parabola-of d) → (n ≡ 0 → ⊥)
+  own-refused : {n : ℕ} → first-failing (own-checks d) ≡ n → (n ≡ 0 → ⊥)
       → Answered d old-marks old old-values (domain-variants.Refused n) old-marks old old-values
-  unfolding domain-answer marks-after list-after values-after domain-number arc.refusal
-  domain-refused {n} e h =
-      rw (first-of-two (arc.checks (parabola-of d)) (room (hard-arguments d) (length old) (length old-values)) (sym e) h) (
-        refused-with n 0 (centred-of d) old-marks old old-values h .0,
+  unfolding domain-answer marks-after list-after values-after domain-number
+  own-refused {n} e h =
+      rw (first-of-two (own-checks d) (room (hard-arguments d) (length old) (length old-values)) e h) (
+        refused-with n 0 0 (centred-of d) old-marks old old-values h .0,
         (sym (refused-old n _ old-marks h), (sym (refused-old n _ old h), sym (refused-old n _ old-values h))),
       )
+
+  -- of the parabola
+  pub domain-refused : {n : ℕ} → n ≡ arc.refusal (parabola-of d) → (n ≡ 0 → ⊥)
+      → Answered d old-marks old old-values (domain-variants.Refused n) old-marks old old-values
+  unfolding arc.refusal
+  domain-refused e h = own-refused (first-of-two (arc.checks (parabola-of d)) _ (sym e) h) h
+
+  -- of the origin
+  pub origin-refused : Searchable d → 2 ^ 52 < d .origin
+      → Answered d old-marks old old-values (domain-variants.Refused 11) old-marks old old-values
+  unfolding arc.refusal
+  origin-refused a h =
+      own-refused
+      (second-of-two (arc.checks (parabola-of d)) _ (accepts (arc.checks (parabola-of d)) (omega arith) .0 (searchable-iff d .1 a))
+      ∙ refused _ {n = 11} (inl (refl, λ l. omega (arith, l))))
+      (λ z. omega (arith, z))
 
   module _ (a : Accepted d) where
     -- an accepted one can be refused by 7 alone
     number-is : domain-number d (length old) (length old-values) ≡ too-few (centred-of d) (length old) (length old-values)
-    unfolding domain-number too-few arc.refusal
+    unfolding domain-number too-few
     number-is =
-        second-of-two (arc.checks (parabola-of d)) (room (hard-arguments d) (length old) (length old-values))
-        (accepts (arc.checks (parabola-of d)) (omega arith) .0 (accepted-iff d .1 a))
+        second-of-two (own-checks d) (room (hard-arguments d) (length old) (length old-values))
+        (accepts (own-checks d) (omega arith) .0 (accepted-iff d .1 a))
 
     -- phase 1 clears it
     pub domain-cleared : {b : Arc} → parabola b ≡ centred-of d → arc-verdict regular b ≡ Clear
         → Answered d old-marks old old-values (domain-variants.Searched Clear 0) (replicate 8 0) old old-values
     unfolding domain-answer marks-after list-after values-after too-few answer-with unless-refused marks-by overwrite-front
     domain-cleared {b} e c =
-        let r : In-range (parabola b) = rw e (searched-in-range d a) in
+        let r : In-range (parabola b) = rw e (searched-in-range d (a .searchable)) in
         let v : verdict regular (covering-of d) ≡ Clear = ap (λ (p : Parabola). verdict regular (covering p)) (sym e) ∙ verdict-is b r regular c in
-        let nothing : hard-arguments d ≡ [] = none-listed regular (searched-in-range d a) v in
+        let nothing : hard-arguments d ≡ [] = none-listed regular (searched-in-range d (a .searchable)) v in
         let none : length (hard-arguments d) ≡ 0 = ap length nothing in
         rw (number-is, accepted (room (hard-arguments d) (length old) (length old-values)) ((omega arith, omega arith), tt), v, nothing) (refl, (refl, (refl, refl)))
 
     -- or it does not
     pub searched-requires : {b : Arc} → parabola b ≡ centred-of d → arc-verdict regular b ≡ Possible
-        → In-range (parabola b) × ((verdict regular (covering (parabola b)) ≡ Possible) × (d .window - 1 < b .modulus))
+        → In-range (parabola b) × ((verdict regular (covering (parabola b)) ≡ Possible) × ((d .origin ≤ 2 ^ 52) × (d .window - 1 < b .modulus)))
     unfolding centred
     searched-requires {b} e c =
-        let r : In-range (parabola b) = rw e (searched-in-range d a) in
+        let r : In-range (parabola b) = rw e (searched-in-range d (a .searchable)) in
         let unit : b .modulus ≡ d .modulus = ap (λ (p : Parabola). p .unit) e in
-        (r, (verdict-is b r regular c, omega (arith, a .window-low, a .window-high)))
+        (r, (verdict-is b r regular c, (a .origin-within, omega (arith, a .searchable .window-low, a .searchable .window-high))))
+
+    -- it does not where every value is hard: then the first argument is
+    pub never-cleared : {b : Arc} → parabola b ≡ centred-of d → b .highest ≡ d .modulus - 1 → arc-verdict regular b ≡ Possible
+    unfolding centred
+    never-cleared {b} e h =
+        let r : In-range (parabola b) = rw e (searched-in-range d (a .searchable)) in
+        let unit : b .modulus ≡ d .modulus = ap (λ (p : Parabola). p .unit) e in
+        let below = parabola-promises.promised .values (parabola b) (positive r) .in-range 0 in
+        otherwise _ (λ c. arc-promises.promised .arcs b .clear regular c .1 0 (r .count-low, omega (arith, below, unit, h)))
 
     -- phases 2 and 3 search it
     pub domain-searched : {p : Parabola} → p ≡ centred-of d → {answer : DomainAnswer} {new-marks new new-values : List ℕ}
-        → Leaves (too-few p (length old) (length old-values)) (d .window - 1) p old-marks old old-values answer new-marks new new-values
+        → Leaves (too-few p (length old) (length old-values)) (d .origin) (d .window - 1) p old-marks old old-values answer new-marks new new-values
         → Answered d old-marks old old-values answer new-marks new new-values
     unfolding domain-answer marks-after list-after values-after
-    domain-searched e l = rw number-is (rw (e, values-lowered d a) at l)
+    domain-searched e l = rw number-is (rw (e, values-lowered d (a .searchable)) at l)
 
 -- ---- scans
 
@@ -254,7 +288,7 @@ module _ (s : Segment) (old old-values : List ℕ) where
         (scan-refused-with 7 s old old-values (λ z. omega (arith, z)))
 
     pub scan-listed : Room (geometry.hard-list s) (length old) (length old-values) → {n : ℕ} → n ≡ length (geometry.hard-list s) → {new new-values : List ℕ}
-        → (new ≡ sets old 0 (map (λ (x : ℕ). 0 + x) (hard-list (line s)))) × (new-values ≡ sets old-values 0 (lowered-values 0 (line s)))
+        → (new ≡ sets old 0 (listed-from 0 (line s))) × (new-values ≡ sets old-values 0 (lowered-values 0 (line s)))
         → Scan-leaves (scan-number s (length old) (length old-values)) s old old-values (scan-variants.Listed n) new new-values
     unfolding scan-answer-with unless-refused
     scan-listed h f g =

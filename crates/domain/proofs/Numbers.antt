@@ -16,7 +16,7 @@ use Rattle.geometry.proofs.Promises as geometry-promises
 use Rattle.parabola.specs.Parabola.{Hard, triangle, value-at, centred}
 use Rattle.parabola.proofs.Laws.{positive, triangle-twice, value-congruent, value-is}
 use Rattle.parabola.proofs.Promises.{promised}
-use Rattle.domain.specs.Domain.{parabola-of, centred-of, Accepted}
+use Rattle.domain.specs.Domain.{parabola-of, centred-of, Searchable}
 use Rattle.domain.specs.Promise.{Value-in-numbers, Hard-in-numbers, Near-a-multiple, Residue-in-segment, Hard-in-segment}
 use Rattle.domain.specs.declared.Domain.{Domain}
 
@@ -63,7 +63,7 @@ module _ (d : Domain) (x : ℕ) where
   )
 
   -- it is hard by the test of the parabola that the phases search
-  pub hard-by-numbers : Accepted d → Hard (centred-of d) x ↔ Hard-in-numbers d x
+  pub hard-by-numbers : Searchable d → Hard (centred-of d) x ↔ Hard-in-numbers d x
   hard-by-numbers a =
       let values = by-values (positive a) in
       let hard = promised .centred-correct (parabola-of d) a .hard x in

@@ -4,6 +4,7 @@ use mathlib.Core.Path.{_≡_, refl, sym, _∙_, ap}
 use mathlib.Core.List.{List, [], map, map-map}
 use mathlib.Core.Logic.{by-cases}
 use Prim.Native.Nat.{ℕ, zero, suc, _+_, _-_, _≤_, _<_, min}
+use native.Mathlib.Nat.{add-assoc}
 use native.Mathlib.Decide.{decLe, decLt}
 use native.Mathlib.Omega.{arith}
 use native.Mathlib.Numerals.{add-one}
@@ -25,7 +26,7 @@ use Rattle.segment.specs.declared.Verdict.{Verdict}
 use Rattle.segment.specs.declared.Verdict.the-variants.{Clear, Possible}
 use Rattle.parabola.specs.Parabola.{Parabola, In-range, triangle, value-at, slope-at, is-hard, hard-list, covering, continued, part, part-start, part-count}
 use Rattle.parabola.proofs.Promises.{promised}
-use Rattle.domain.specs.Scan.{lowered, lowered-at, lowered-values}
+use Rattle.domain.specs.Scan.{listed-from, lowered, lowered-at, lowered-values}
 use Rattle.domain.specs.Phases.{mark-of, mark-with, part-mark, part-marks, hard-count, hard-counts, part-report, report}
 use Rattle.arc.specs.Arc.{parabola, point-answer, arc-verdict}
 use Rattle.arc.specs.declared.Arc.{Arc}
@@ -76,6 +77,11 @@ unfolding hard-list is-hard
 none-listed k {p} range e =
     filter-empty (is-hard p) (p .count) 0
     (λ y l h. by-cases (decLe (p .window) (value-at p y)) (le-ltb (value-at p y) (p .window)) (λ m. absurd (arc.promised .searched p range .cleared k e y (omega arith, omega arith))))
+
+-- a verdict that is not clear is possible
+pub otherwise : (v : Verdict) → (v ≡ Clear → ⊥) → v ≡ Possible
+otherwise Clear h = absurd (h refl)
+otherwise Possible h = refl
 
 -- its mark is 3 where it has no argument, and else by its verdict
 pub mark-empty : {n : ℕ} (v : Verdict) → n ≡ 0 → mark-with n v ≡ 3
@@ -171,64 +177,93 @@ module _ {p : Parabola} {marks counts : List ℕ} {total i : ℕ} (e : Examining
 
 -- ---- listing
 
--- the values beside what the part i lists
-abbrev value-piece : (raise : ℕ) → Parabola → (i : ℕ) → List ℕ
-value-piece raise p i = lowered-values raise (part p i)
+-- f of each argument that the part i lists
+abbrev column-piece : (f : ℕ → ℕ) → Parabola → (i : ℕ) → List ℕ
+column-piece f p i = map f (piece p i)
 
--- one part after another they are the values beside what the whole lists
-value-pieces : (raise : ℕ) {p : Parabola} → In-range p → joined (value-piece raise p) 8 0 ≡ lowered-values raise p
+-- what a part lists by itself, from the origin and its beginning on, is what it lists as arguments of the whole, from the origin on
+arguments-of-part : (origin : ℕ) (p : Parabola) (i : ℕ)
+    → listed-from (origin + part-start (p .count) i) (part p i) ≡ column-piece (λ (y : ℕ). origin + y) p i
+arguments-of-part origin p i =
+    ap (λ (f : ℕ → ℕ). map f (hard-list (part p i))) (λ j y. add-assoc origin (part-start (p .count) i) y j)
+    ∙ sym (map-map (λ (y : ℕ). origin + y) (λ (y : ℕ). part-start (p .count) i + y) (hard-list (part p i)))
+
+-- its values, lowered, are those of the whole at what it lists
+values-of-part : (raise : ℕ) {p : Parabola} → In-range p → (i : ℕ) → lowered-values raise (part p i) ≡ column-piece (lowered-at raise p) p i
 unfolding continued
-value-pieces raise {p} range =
-    let parts = promised .parts p range in
-    let of-part : (i : ℕ) → value-piece raise p i ≡ map (lowered-at raise p) (piece p i)
-    = λ i. ap (λ (f : ℕ → ℕ). map f (hard-list (part p i))) (λ j y. lowered raise (p .unit) (parts .continues i y j))
-    ∙ sym (map-map (lowered-at raise p) (λ (y : ℕ). part-start (p .count) i + y) (hard-list (part p i))) in
-    ap (λ (f : ℕ → List ℕ). joined f 8 0) (λ j i. of-part i j) ∙ sym (map-joined (lowered-at raise p) (piece p) 8 0) ∙ ap (map (lowered-at raise p)) (parts .lists)
+values-of-part raise {p} range i =
+    ap (λ (f : ℕ → ℕ). map f (hard-list (part p i))) (λ j y. lowered raise (p .unit) (promised .parts p range .continues i y j))
+    ∙ sym (map-map (lowered-at raise p) (λ (y : ℕ). part-start (p .count) i + y) (hard-list (part p i)))
+
+-- a column is written, f of each argument that the parts list; that of the part i and of those after it is still to be written, from the place on
+pub record Parts-column (f : ℕ → ℕ) (p : Parabola) (old now : List ℕ) (place i : ℕ) : Type 0 where
+  pub writing : Writing (map f (hard-list p)) old 0 (joined (column-piece f p) (8 - i) i) now place
+
+module _ {f : ℕ → ℕ} {p : Parabola} {old : List ℕ} where
+  column-first : In-range p → Parts-column f p old old 0 0
+  column-first range =
+      record { writing = restate (ap (map f) (sym (promised .parts p range .lists)) ∙ map-joined f (piece p) 8 0) (begin (map f (hard-list p)) old 0) }
+
+  module _ {now : List ℕ} {place i : ℕ} (c : Parts-column f p old now place i) where
+    column-length : length (column-piece f p i) ≡ length (hard-list (part p i))
+    column-length = length-map (piece p i) f ∙ piece-length p i
+
+    -- the part ends no later than the whole
+    pub column-end : i < 8 → place + length (hard-list (part p i)) ≤ length (hard-list p)
+    column-end h =
+        let left = joined (column-piece f p) (8 - suc i) (suc i) in
+        omega (
+          arith,
+          c .writing .place,
+          length-map (hard-list p) f,
+          ap length (joined-next (column-piece f p) 8 i h) ∙ length-append (column-piece f p i) left,
+          column-length,
+        )
+
+    column-next : i < 8 → {n : ℕ} {new : List ℕ} → n ≡ length (hard-list (part p i)) → new ≡ sets now place (column-piece f p i)
+        → Parts-column f p old new (place + n) (i + 1)
+    column-next h e g =
+        record {
+          writing = rw (add-one i)
+              (write-list (column-piece f p i) _ (restate (joined-next (column-piece f p) 8 i h) (c .writing)) (omega (arith, e, column-length), g));
+        }
+
+    column-done : i ≡ 8 → length (hard-list p) ≤ length old → now ≡ overwrite-front (map f (hard-list p)) old
+    column-done e room =
+        done (restate (joined-none (column-piece f p) 8) (rw e at (c .writing))) .1
+        ∙ written-front (map f (hard-list p)) old (omega (arith, length-map (hard-list p) f))
 
 -- before the part i, with what those before it list and the values beside it written, and the next ones to be written at the place
-pub record Listing-parts (p : Parabola) (raise : ℕ) (old old-values list values : List ℕ) (place i : ℕ) : Type 0 where
+pub record Listing-parts (p : Parabola) (origin raise : ℕ) (old old-values list values : List ℕ) (place i : ℕ) : Type 0 where
   pub within : i ≤ 8
-  pub arguments-writing : Writing (hard-list p) old 0 (pieces-from p i) list place
-  pub values-writing : Writing (lowered-values raise p) old-values 0 (joined (value-piece raise p) (8 - i) i) values place
+  pub arguments-column : Parts-column (λ (y : ℕ). origin + y) p old list place i
+  pub values-column : Parts-column (lowered-at raise p) p old-values values place i
 
-pub list-first : {p : Parabola} (raise : ℕ) (old old-values : List ℕ) → In-range p → Listing-parts p raise old old-values old old-values 0 0
-list-first {p} raise old old-values d =
-    record {
-      within = omega arith;
-      arguments-writing = restate (sym (promised .parts p d .lists)) (begin (hard-list p) old 0);
-      values-writing = restate (sym (value-pieces raise d)) (begin (lowered-values raise p) old-values 0);
-    }
+pub list-first : {p : Parabola} (origin raise : ℕ) (old old-values : List ℕ) → In-range p
+    → Listing-parts p origin raise old old-values old old-values 0 0
+list-first origin raise old old-values range =
+    record { within = omega arith; arguments-column = column-first range; values-column = column-first range }
 
-module _ {p : Parabola} {raise : ℕ} {old old-values list values : List ℕ} {place i : ℕ} (l : Listing-parts p raise old old-values list values place i) where
-  -- the part ends no later than the whole
-  pub list-end : i < 8 → place + length (hard-list (part p i)) ≤ length (hard-list p)
-  list-end h = omega (arith, l .arguments-writing .place, pieces-length p i h)
-
-  -- and there is room for it
+module _ {p : Parabola} {origin raise : ℕ} {old old-values list values : List ℕ} {place i : ℕ} (l : Listing-parts p origin raise old old-values list values place i) where
+  -- there is room for the part
   pub list-room : i < 8 → length (hard-list p) ≤ length old → length (hard-list p) ≤ length old-values
       → (place + length (hard-list (part p i)) ≤ length list) × (place + length (hard-list (part p i)) ≤ length values)
   list-room h k m =
-      (omega (arith, list-end h, l .arguments-writing .length-kept), omega (arith, list-end h, l .values-writing .length-kept))
+      let end = column-end (l .arguments-column) h in
+      (omega (arith, end, l .arguments-column .writing .length-kept), omega (arith, end, l .values-column .writing .length-kept))
 
-  pub list-next : i < 8 → {n : ℕ} {new new-values : List ℕ} → n ≡ length (hard-list (part p i))
-      → (new ≡ sets list place (piece p i)) × (new-values ≡ sets values place (value-piece raise p i))
-      → Listing-parts p raise old old-values new new-values (place + n) (i + 1)
-  list-next h e f =
+  pub list-next : In-range p → i < 8 → {n : ℕ} {new new-values : List ℕ} → n ≡ length (hard-list (part p i))
+      → (new ≡ sets list place (listed-from (origin + part-start (p .count) i) (part p i)))
+      × (new-values ≡ sets values place (lowered-values raise (part p i)))
+      → Listing-parts p origin raise old old-values new new-values (place + n) (i + 1)
+  list-next range h e f =
       record {
         within = omega arith;
-        arguments-writing = rw (add-one i)
-            (write-list (piece p i) (pieces-from p (suc i)) (restate (joined-next (piece p) 8 i h) (l .arguments-writing))
-            (omega (arith, e, piece-length p i), f .0));
-        values-writing = rw (add-one i)
-            (write-list (value-piece raise p i) _ (restate (joined-next (value-piece raise p) 8 i h) (l .values-writing))
-            (omega (arith, e, length-map (hard-list (part p i)) (lowered-at raise (part p i))), f .1));
+        arguments-column = column-next (l .arguments-column) h e (f .0 ∙ ap (sets list place) (arguments-of-part origin p i));
+        values-column = column-next (l .values-column) h e (f .1 ∙ ap (sets values place) (values-of-part raise range i));
       }
 
   pub list-done : 8 ≤ i → length (hard-list p) ≤ length old → length (hard-list p) ≤ length old-values
-      → (list ≡ overwrite-front (hard-list p) old) × (values ≡ overwrite-front (lowered-values raise p) old-values)
+      → (list ≡ overwrite-front (listed-from origin p) old) × (values ≡ overwrite-front (lowered-values raise p) old-values)
   list-done h k m =
-      let f : i ≡ 8 = omega (arith, l .within) in (
-        done (restate (joined-none (piece p) 8) (rw f at (l .arguments-writing))) .1 ∙ written-front (hard-list p) old k,
-        done (restate (joined-none (value-piece raise p) 8) (rw f at (l .values-writing))) .1
-            ∙ written-front (lowered-values raise p) old-values (omega (arith, length-map (hard-list p) (lowered-at raise p))),
-      )
+      let last : i ≡ 8 = omega (arith, l .within) in (column-done (l .arguments-column) last k, column-done (l .values-column) last m)

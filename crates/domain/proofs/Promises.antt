@@ -1,16 +1,17 @@
 -- All that is promised of domains and scans. Assumes nothing.
 use mathlib.Core.Path.{_≡_, refl, sym, _∙_, ap, ap₂, subst}
-use mathlib.Core.List.{List, [], map}
+use mathlib.Core.List.{List, [], _++_, map}
 use mathlib.Core.Logic.{_↔_, ⊎-elim}
-use Prim.Native.Nat.{ℕ, zero, suc, _≤_, _<_}
+use Prim.Native.Nat.{ℕ, zero, suc, _+_, _^_, _≤_, _<_}
 use native.Mathlib.Omega.{arith}
 use lib.Dec.{ltb}
 use lib.ListN.{length, getD, take, length-map}
-use Rattle.numbers.specs.Checklist.{unless-refused}
+use Rattle.numbers.specs.Checklist.{first-failing, unless-refused}
 use Rattle.numbers.specs.Lists.{count-if, overwrite-front}
 use Rattle.numbers.specs.Promise.{Enumerates, Buffer-correct}
 use Rattle.numbers.proofs.Lists.{mapped-at}
-use Rattle.numbers.proofs.Checklists.{gives, unrefused-new, refused-old}
+use Rattle.numbers.proofs.Checklists.{without-holding, gives, unrefused-new, refused-old}
+use Rattle.numbers.proofs.Selections.{enumerates-moved}
 use Rattle.numbers.proofs.Buffers.{front-correct, front-taken, front-ascends}
 use Rattle.expansion.specs.Reached.Search.{regular}
 use Rattle.geometry.specs.Segment.{Segment, residue}
@@ -25,11 +26,12 @@ use Rattle.parabola.specs.Parabola.{Parabola, triangle, value-at, slope-at, har
 use Rattle.parabola.specs.Promise.{Covering-both-correct}
 use Rattle.parabola.proofs.Laws.{positive}
 use Rattle.parabola.proofs.Promises as parabola
+use Rattle.arc.specs.Arc as arcs
 use Rattle.arc.proofs.Promises as arc
-use Rattle.domain.specs.Domain.{parabola-of, centred-of, hard-arguments, hard-values, covering-of, part-covering, Accepted}
+use Rattle.domain.specs.Domain.{parabola-of, centred-of, hard-arguments, listed-arguments, hard-values, covering-of, part-covering, Searchable, Accepted, with-origin}
 use Rattle.domain.specs.Scan.{next-point}
-use Rattle.domain.specs.Answer.{domain-checks, domain-number, answer-with, domain-answer, marks-of, marks-after, list-after, values-after, domain-refusal, domain-first, domain-count, hard-residues, scan-checks, scan-number, scan-answer-with, scan-answer, scan-list-after, scan-values-after, scan-refusal, scan-count}
-use Rattle.domain.specs.Promise.{Parabola-correct, Value-in-numbers, Values-beside, Hard-in-numbers, Residue-in-segment, Hard-in-segment, Coverings-correct, Without-window, Refused-for, Scan-refused-for, Marks-correct, Domain-correct, Scan-correct, Promised}
+use Rattle.domain.specs.Answer.{room, domain-checks, domain-number, answer-with, domain-answer, marks-of, marks-after, list-after, values-after, domain-refusal, domain-first, domain-count, hard-residues, scan-checks, scan-number, scan-answer-with, scan-answer, scan-list-after, scan-values-after, scan-refusal, scan-count}
+use Rattle.domain.specs.Promise.{Parabola-correct, Value-in-numbers, Hard-in-numbers, Listed-in-numbers, Beside-in-numbers, Values-beside, Residue-in-segment, Hard-in-segment, Coverings-correct, Without-window, Refused-for, Scan-refused-for, Marks-correct, Domain-correct, Origin-correct, Scan-correct, Promised}
 use Rattle.domain.specs.declared.Domain.{Domain}
 use Rattle.domain.specs.declared.DomainAnswer.the-variants as domain-variants
 use Rattle.domain.specs.declared.ScanAnswer.the-variants as scan-variants
@@ -45,7 +47,7 @@ parabola-correct d =
 
 -- ---- hard arguments
 
-hard-lists : (d : Domain) → Accepted d → Enumerates (Hard-in-numbers d) (length (hard-arguments d)) (hard-arguments d)
+hard-lists : (d : Domain) → Searchable d → Enumerates (Hard-in-numbers d) (length (hard-arguments d)) (hard-arguments d)
 unfolding centred
 hard-lists d a =
     let l = parabola.promised .hard-lists (centred-of d) (a .count-high) in
@@ -56,19 +58,31 @@ hard-lists d a =
       counted = refl;
     }
 
+-- as they are listed
+listed-are : (d : Domain) → Accepted d → Enumerates (Listed-in-numbers d) (length (hard-arguments d)) (listed-arguments d)
+listed-are d a =
+    enumerates-moved (d .origin) (hard-lists d (a .searchable)) (λ x h. omega (arith, h .0, a .searchable .count-high, a .origin-within))
+
+as-many : (d : Domain) → length (listed-arguments d) ≡ length (hard-arguments d)
+as-many d = length-map (hard-arguments d) (λ (x : ℕ). d .origin + x)
+
+listed-at : (d : Domain) (i : ℕ) → i < length (hard-arguments d) → getD (listed-arguments d) i 0 ≡ d .origin + getD (hard-arguments d) i 0
+listed-at d = mapped-at (λ (x : ℕ). d .origin + x) (hard-arguments d)
+
 -- the value of each beside it
-hard-values-are : (d : Domain) → Accepted d → Values-beside d (hard-arguments d) (hard-values d)
+hard-values-are : (d : Domain) → Searchable d → Values-beside d (listed-arguments d) (hard-values d)
 hard-values-are d a =
     record {
-      as-many = length-map (hard-arguments d) (value-at (parabola-of d));
+      as-many = length-map (hard-arguments d) (value-at (parabola-of d)) ∙ sym (as-many d);
       each = λ i h.
-          subst (Value-in-numbers d (getD (hard-arguments d) i 0)) (sym (mapped-at (value-at (parabola-of d)) (hard-arguments d) i h))
-          (value-in-numbers d (getD (hard-arguments d) i 0) (positive a));
+          let x = getD (hard-arguments d) i 0 in
+          let l : i < length (hard-arguments d) = omega (arith, as-many d) in
+          (x, listed-at d i l, subst (Value-in-numbers d x) (sym (mapped-at (value-at (parabola-of d)) (hard-arguments d) i l)) (value-in-numbers d x (positive a)));
     }
 
 -- ---- covering segments
 
-coverings-correct : (d : Domain) → Accepted d → Coverings-correct d
+coverings-correct : (d : Domain) → Searchable d → Coverings-correct d
 coverings-correct d a =
     let whole = parabola.promised .centred-correct (parabola-of d) a in
     let parts = parabola.promised .parts (parabola-of d) a in
@@ -79,7 +93,7 @@ coverings-correct d a =
       whole-accepted = arc.promised .searched _ (whole .in-range) .covering-accepted;
       whole-covers = whole .covering-both;
       of-part = λ i h n l e f some. unfold continued value-at slope-at triangle in rw (e, f) (covers i (omega (arith, f, some)) .numbers);
-      part-accepted = λ i l some. arc.promised .searched _ (part-in-range a i some) .covering-accepted;
+      part-accepted = λ i l some. arc.promised .searched _ (part-in-range d a i some) .covering-accepted;
       part-covers = λ i l some. covers i some;
     }
 
@@ -112,7 +126,7 @@ module _ (d : Domain) (old-marks old old-values : List ℕ) where
   -- what is accepted leaves the marks, the list and the values
   searched-leaves : domain-number-of ≡ 0
       → (marks-after d (length old) (length old-values) old-marks ≡ marks-of d)
-      × (list-after d (length old-values) old ≡ overwrite-front (hard-arguments d) old)
+      × (list-after d (length old-values) old ≡ overwrite-front (listed-arguments d) old)
       × (values-after d (length old) old-values ≡ overwrite-front (hard-values d) old-values)
   unfolding marks-after list-after values-after
   searched-leaves e = (unrefused-new _ old-marks e, unrefused-new _ old e, unrefused-new _ old-values e)
@@ -134,18 +148,18 @@ module _ (d : Domain) (old-marks old old-values : List ℕ) where
         written = λ v n e. searched-leaves (reports v n .0 e .0);
         marked = λ v n e. let r = reports v n .0 e in
             subst (λ (m : List ℕ). Marks-correct d v m) (sym (searched-leaves (r .0) .0))
-            (rw (r .1) (marks-correct (taken (r .0) .0) (verdict regular (covering-of d))));
+            (rw (r .1) (marks-correct d (taken (r .0) .0 .searchable) (verdict regular (covering-of d))));
         cleared = λ n e. cleared n (reports Clear n .0 e);
         buffer = λ v n e. buffer (reports v n .0 e .0);
         values-buffer = λ v n e. values-buffer (reports v n .0 e .0);
         hard = λ v n e. let r = reports v n .0 e in hard n (r .0) (r .2);
         ascends = λ v n e. let r = reports v n .0 e in
-            λ i j h k. front-ascends (buffer (r .0)) (hard-lists d (taken (r .0) .0) .ascending) i j h (omega (arith, r .2));
-        values = λ v n e i h. let r = reports v n .0 e in values (r .0) i (omega (arith, r .2));
+            λ i j h k. front-ascends (buffer (r .0)) (listed-are d (taken (r .0) .0) .ascending) i j h (omega (arith, r .2, as-many d));
+        values = λ v n e i h. let r = reports v n .0 e in values (r .0) i (omega (arith, r .2, as-many d));
         after = λ v n e i h.
             let r = reports v n .0 e in
-            let as-many = hard-values-are d (taken (r .0) .0) .as-many in
-            (buffer (r .0) .after i (omega (arith, r .2)), values-buffer (r .0) .after i (omega (arith, r .2, as-many)));
+            let beside = hard-values-are d (taken (r .0) .0 .searchable) .as-many in
+            (buffer (r .0) .after i (omega (arith, r .2, as-many d)), values-buffer (r .0) .after i (omega (arith, r .2, as-many d, beside)));
       }
     where
       refuses : (n : ℕ) → (answer-with domain-number-of (centred-of d) ≡ domain-variants.Refused n) ↔ ((domain-number-of ≡ n) × (n ≡ 0 → ⊥))
@@ -161,40 +175,73 @@ module _ (d : Domain) (old-marks old old-values : List ℕ) where
       taken : domain-number-of ≡ 0 → Accepted d × Room (hard-arguments d) (length old) (length old-values)
       taken = number-accepts d (length old) (length old-values) .0
 
-      buffer : domain-number-of ≡ 0 → Buffer-correct (hard-arguments d) old (list-after d (length old-values) old)
-      buffer e = subst (Buffer-correct (hard-arguments d) old) (sym (searched-leaves e .1)) (front-correct (hard-arguments d) old (taken e .1 .0))
+      buffer : domain-number-of ≡ 0 → Buffer-correct (listed-arguments d) old (list-after d (length old-values) old)
+      buffer e =
+          subst (Buffer-correct (listed-arguments d) old) (sym (searched-leaves e .1))
+          (front-correct (listed-arguments d) old (omega (arith, taken e .1 .0, as-many d)))
 
       values-buffer : domain-number-of ≡ 0 → Buffer-correct (hard-values d) old-values (values-after d (length old) old-values)
       values-buffer e =
           subst (Buffer-correct (hard-values d) old-values) (sym (searched-leaves e .2))
-          (front-correct (hard-values d) old-values (omega (arith, taken e .1 .1, hard-values-are d (taken e .0) .as-many)))
+          (front-correct (hard-values d) old-values (omega (arith, taken e .1 .1, hard-values-are d (taken e .0 .searchable) .as-many, as-many d)))
 
-      values : domain-number-of ≡ 0 → (i : ℕ) → i < length (hard-arguments d)
-          → Value-in-numbers d (getD (list-after d (length old-values) old) i 0) (getD (values-after d (length old) old-values) i 0)
+      values : domain-number-of ≡ 0 → (i : ℕ) → i < length (listed-arguments d)
+          → Beside-in-numbers d (getD (list-after d (length old-values) old) i 0) (getD (values-after d (length old) old-values) i 0)
       values e i h =
-          let beside = hard-values-are d (taken e .0) in
+          let beside = hard-values-are d (taken e .0 .searchable) in
           rw (buffer e .front i h, values-buffer e .front i (omega (arith, beside .as-many))) (beside .each i h)
 
       hard : (n : ℕ) → domain-number-of ≡ 0 → n ≡ length (hard-arguments d)
-          → Enumerates (Hard-in-numbers d) n (take n (list-after d (length old-values) old))
+          → Enumerates (Listed-in-numbers d) n (take n (list-after d (length old-values) old))
       hard n e f =
-          let t : take n (list-after d (length old-values) old) ≡ hard-arguments d
-          = ap₂ take f (searched-leaves e .1) ∙ front-taken (hard-arguments d) old in
-          subst (Enumerates (Hard-in-numbers d) n) (sym t) (rw f (hard-lists d (taken e .0)))
+          let t : take n (list-after d (length old-values) old) ≡ listed-arguments d
+          = ap₂ take (f ∙ sym (as-many d)) (searched-leaves e .1) ∙ front-taken (listed-arguments d) old in
+          subst (Enumerates (Listed-in-numbers d) n) (sym t) (rw f (listed-are d (taken e .0)))
 
       cleared : (n : ℕ) → (domain-number-of ≡ 0) × (Clear ≡ verdict regular (covering-of d)) × (n ≡ length (hard-arguments d))
           → (n ≡ 0) × (list-after d (length old-values) old ≡ old) × (values-after d (length old) old-values ≡ old-values)
           × ((x : ℕ) → Hard-in-numbers d x → ⊥)
       cleared n r =
-          let a = taken (r .0) .0 in
+          let a = taken (r .0) .0 .searchable in
           let z : hard-arguments d ≡ [] = none-listed regular (searched-in-range d a) (sym (r .1)) in (
             r .2 ∙ ap length z,
-            searched-leaves (r .0) .1 ∙ nothing-over old z,
+            searched-leaves (r .0) .1 ∙ nothing-over old (ap (map (λ (x : ℕ). d .origin + x)) z),
             searched-leaves (r .0) .2 ∙ nothing-over old-values (ap (map (value-at (parabola-of d))) z),
-            λ x h. phases-correct a .first-none (sym (r .1)) x h,
+            λ x h. phases-correct d a .first-none (sym (r .1)) x h,
           )
 
--- the number of a domain that is 1 to 5 is that of the segment: else the segment has 0, and what is asked after it has 6 or 7
+-- ---- another origin
+
+-- an origin that is not refused does not change the number
+number-of-rest : (d : Domain) (m n : ℕ) → d .origin ≤ 2 ^ 52 → domain-number d m n ≡ first-failing (arcs.checks (parabola-of d) ++ room (hard-arguments d) m n)
+unfolding domain-number
+number-of-rest d m n h = without-holding (arcs.checks (parabola-of d)) _ (room (hard-arguments d) m n) h
+
+origin-correct : (d : Domain) (o : ℕ) (old-marks old old-values : List ℕ) → d .origin ≤ 2 ^ 52 → o ≤ 2 ^ 52 → Origin-correct d o old-marks old old-values
+origin-correct d o old-marks old old-values h k =
+    record {
+      is = refl;
+      same-answer = same-answer;
+      same-marks = unfold marks-after in ap (λ (n : ℕ). unless-refused n (marks-of d) old-marks) same-number;
+      same-values = unfold values-after in ap (λ (n : ℕ). unless-refused n (overwrite-front (hard-values d) old-values) old-values) same-number;
+      moved = λ v n e i l.
+          let here = domain-correct d old-marks old old-values in
+          let there = domain-correct (with-origin o d) old-marks old old-values in
+          let m : i < length (hard-arguments d) = omega (arith, here .searched v n .0 e .4) in
+          omega (
+            arith,
+            here .buffer v n e .front i (omega (arith, as-many d)) ∙ listed-at d i m,
+            there .buffer v n (same-answer ∙ e) .front i (omega (arith, as-many (with-origin o d))) ∙ listed-at (with-origin o d) i m,
+          );
+    }
+  where
+    same-number : domain-number (with-origin o d) (length old) (length old-values) ≡ domain-number d (length old) (length old-values)
+    same-number = number-of-rest (with-origin o d) (length old) (length old-values) k ∙ sym (number-of-rest d (length old) (length old-values) h)
+
+    same-answer : domain-answer (with-origin o d) (length old) (length old-values) ≡ domain-answer d (length old) (length old-values)
+    same-answer = unfold domain-answer in ap (λ (n : ℕ). answer-with n (centred-of d)) same-number
+
+-- the number of a domain that is 1 to 5 is that of the segment: else the segment has 0, and what is asked after it has 6, 11 or 7
 refused-as-segment : (d : Domain) (list-places value-places n : ℕ) → 1 ≤ n → n ≤ 5
     → (domain-answer d list-places value-places ≡ domain-variants.Refused n)
     ↔ (segment.refusal (segment.asked (d .modulus) (d .slope) (d .value) (d .count) (d .window)) ≡ n)
@@ -315,14 +362,17 @@ promised =
       nearest = λ d a x. nearest d x (a .window-high);
       hard-lists = hard-lists;
       hard-values-are = hard-values-are;
-      accepted = λ d. (λ a. omega arith, λ h. omega arith);
+      accepted = λ d. (λ a. (a .searchable, a .origin-within), λ h. record { searchable = h .0; origin-within = h .1 });
+      searchable = λ d. (λ a. omega arith, λ h. omega arith);
+      listed-are = listed-are;
+      origins = origin-correct;
       coverings = coverings-correct;
       eight-parts = λ d. parabola.promised .eight-parts (d .count);
       parts = λ d a. parabola.promised .parts (parabola-of d) a;
-      centred-parts = λ d a. searched-parts a;
+      centred-parts = searched-parts;
       differences = λ p x positive. unfold next-point in
           let v = parabola.promised .values p positive in λ j. record { value = sym (v .differences x) j; slope = sym (v .slope-differences x) j };
-      phases = λ d a. phases-correct a;
+      phases = phases-correct;
       refused-as-segment = refused-as-segment;
       marks-as-before = marks-as-before;
       domains = domain-correct;

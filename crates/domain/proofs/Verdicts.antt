@@ -20,12 +20,12 @@ use Rattle.parabola.specs.Parabola.{Parabola, In-range, value-at, centred, cove
 use Rattle.parabola.specs.Promise.{Parts-correct}
 use Rattle.parabola.proofs.Promises as parabola
 use Rattle.arc.proofs.Promises as arc
-use Rattle.domain.specs.Domain.{centred-of, covering-of, part-covering, Accepted}
+use Rattle.domain.specs.Domain.{centred-of, covering-of, part-covering, Searchable}
 use Rattle.domain.specs.Answer.{marks-of}
 use Rattle.domain.specs.Phases.{mark-of, mark-with, part-mark, part-marks, marks-by}
 use Rattle.domain.specs.Promise.{None-in-part, Phases-correct, Marks-correct}
 use Rattle.domain.specs.declared.Domain.{Domain}
-use Rattle.domain.proofs.Parts.{mark-empty, mark-some}
+use Rattle.domain.proofs.Parts.{otherwise, mark-empty, mark-some}
 use Rattle.domain.proofs.Answers.{searched-in-range}
 use Rattle.domain.proofs.Numbers.{hard-by-numbers}
 
@@ -34,7 +34,7 @@ verdicts : (k : Search) {p : Parabola} → In-range p
     → Verdicts-correct k (covering p .unit) (covering p .step) (covering p .start) (covering p .count) (covering p .window)
 verdicts k {p} range = segment.promised .verdicts k _ _ _ _ _ (arc.promised .searched p range .covering-accepted)
 
-module _ {d : Domain} (a : Accepted d) where
+module _ (d : Domain) (a : Searchable d) where
   -- the parts of the parabola that the phases search
   pub searched-parts : Parts-correct (centred-of d)
   searched-parts = parabola.promised .parts (centred-of d) (searched-in-range d a)
@@ -98,11 +98,6 @@ mark-looked-at : (n : ℕ) (v : Verdict) → (1 ≤ mark-with n v) × (mark-with
 mark-looked-at zero v = let e = mark-empty {n = 0} v refl in (omega arith, omega arith)
 mark-looked-at (suc n) v = let e = mark-some (suc n) v (omega arith) in (omega (arith, mark-within v), omega (arith, mark-within v))
 
--- a verdict that is not clear is possible
-otherwise : (v : Verdict) → (v ≡ Clear → ⊥) → v ≡ Possible
-otherwise Clear h = absurd (h refl)
-otherwise Possible h = refl
-
 -- of eight entries none is above 3
 eight-small : (xs : List ℕ) → length xs ≡ 8 → ((i : ℕ) → i < 8 → getD xs i 0 ≤ 3) → (i : ℕ) → getD xs i 0 ≤ 3
 eight-small xs e small i =
@@ -112,9 +107,9 @@ mark-at : (d : Domain) (i : ℕ) → i < 8 → getD (part-marks (centred-of d)) 
 unfolding continued centred
 mark-at d i h = tabulate-at (part-mark (centred-of d)) 8 i h
 
-pub marks-correct : {d : Domain} → Accepted d → (v : Verdict) → Marks-correct d v (marks-by v (centred-of d))
+pub marks-correct : (d : Domain) → Searchable d → (v : Verdict) → Marks-correct d v (marks-by v (centred-of d))
 unfolding marks-by
-marks-correct a Clear =
+marks-correct d a Clear =
     let zero-at : (i : ℕ) → i < 8 → _≡_ {A = ℕ} (getD (replicate 8 0) i 0) 0 = λ i h. getD-replicate {A = ℕ} 8 i 0 0 h in
     record {
       eight = refl;
@@ -126,7 +121,7 @@ marks-correct a Clear =
       none-hard = λ i h e. absurd (omega (arith, e, zero-at i h));
       hard-in-2 = λ e. absurd (apart e);
     }
-marks-correct {d} a Possible =
+marks-correct d a Possible =
     let marks = part-marks (centred-of d) in
     let long : length (part-marks (centred-of d)) ≡ 8 = tabulate-length (part-mark (centred-of d)) 8 0 in
     let looked : (i : ℕ) → i < 8 → (1 ≤ getD (part-marks (centred-of d)) i 0) × (getD (part-marks (centred-of d)) i 0 ≤ 3)
@@ -138,14 +133,14 @@ marks-correct {d} a Possible =
       clear = λ i h. let m = through (mark-at d i h) (mark-clear _ _) in (λ e. let k = m .0 e in (refl, k .0, k .1), λ k. m .1 (k .1, k .2));
       possible = λ i h. let m = through (mark-at d i h) (mark-possible _ _) in (λ e. let k = m .0 e in (refl, k .0, k .1), λ k. m .1 (k .1, k .2));
       empty = λ i h. let m = through (mark-at d i h) (mark-none _ _) in (λ e. (refl, m .0 e), λ k. m .1 (k .1));
-      none-hard = λ i h e. let k = mark-clear _ _ .0 (sym (mark-at d i h) ∙ e) in part-none a i (k .0) (k .1);
+      none-hard = λ i h e. let k = mark-clear _ _ .0 (sym (mark-at d i h) ∙ e) in part-none d a i (k .0) (k .1);
       hard-in-2 = λ e i h x l n.
           let some : 1 ≤ part-count (d .count) i = omega (arith, l .0, l .1, parabola.promised .eight-parts (d .count) .next i) in
-          mark-at d i h ∙ mark-possible _ _ .1 (some, otherwise _ (λ c. part-none a i some c x l n));
+          mark-at d i h ∙ mark-possible _ _ .1 (some, otherwise _ (λ c. part-none d a i some c x l n));
     }
 
 -- where all parts have N/8 arguments, and at least one, a mark is by the verdict on such a part
-pub marks-as-before : (d : Domain) → Accepted d → 8 ≤ d .count → d .count % 8 ≡ 0 → verdict regular (covering-of d) ≡ Possible → (i : ℕ) → i < 8
+pub marks-as-before : (d : Domain) → Searchable d → 8 ≤ d .count → d .count % 8 ≡ 0 → verdict regular (covering-of d) ≡ Possible → (i : ℕ) → i < 8
     → getD (marks-of d) i 0 ≡ mark-of (verdict fine (covering (continued (centred-of d) (i * (d .count / 8)) (d .count / 8))))
 unfolding marks-by centred
 marks-as-before d a low e possible i h =

@@ -1,7 +1,7 @@
 -- What the two calls answer, and what they leave in the caller's buffers. Assumes nothing: these are definitions.
 use mathlib.Core.List.{List, [], _∷_, _++_, map}
 use mathlib.Core.Logic.{Dec·and}
-use Prim.Native.Nat.{ℕ, zero, suc}
+use Prim.Native.Nat.{ℕ, zero, suc, _^_}
 use native.Mathlib.Decide.{decLe}
 use lib.ListN.{length}
 use Rattle.numbers.specs.Checklist.{Check, check, first-failing, unless-refused}
@@ -15,8 +15,8 @@ use Rattle.segment.specs.declared.Verdict.{Verdict}
 use Rattle.segment.specs.declared.Verdict.the-variants.{Possible}
 use Rattle.parabola.specs.Parabola.{Parabola, hard-list, covering}
 use Rattle.arc.specs.Arc as arc
-use Rattle.domain.specs.Domain.{parabola-of, centred-of, hard-arguments, hard-values}
-use Rattle.domain.specs.Scan.{lowered-values}
+use Rattle.domain.specs.Domain.{parabola-of, centred-of, hard-arguments, listed-arguments, hard-values}
+use Rattle.domain.specs.Scan.{listed-from, lowered-values}
 use Rattle.domain.specs.Phases.{marks}
 use Rattle.domain.specs.declared.Domain.{Domain}
 use Rattle.domain.specs.declared.DomainAnswer.{DomainAnswer}
@@ -30,9 +30,17 @@ room xs m n = check 7 (Dec·and (decLe (length xs) m) (decLe (length xs) n)) ∷
 
 -- ---- domains
 
--- what is asked of a domain with a list and values of so many places: what is asked of its parabola, and then room
+-- 11, unless the origin is at most 2^52
+abbrev pub origin-checks : Domain → List Check
+origin-checks d = check 11 (decLe (d .origin) (2 ^ 52)) ∷ []
+
+-- what is asked of a domain, but for places: what is asked of its parabola, and then of its origin
+abbrev pub own-checks : Domain → List Check
+own-checks d = arc.checks (parabola-of d) ++ origin-checks d
+
+-- and then that a list and values of so many places have room
 abbrev pub domain-checks : Domain → (list-places value-places : ℕ) → List Check
-domain-checks d m n = arc.checks (parabola-of d) ++ room (hard-arguments d) m n
+domain-checks d m n = own-checks d ++ room (hard-arguments d) m n
 
 -- the number of the first condition that does not hold, or 0
 unfoldable pub domain-number : Domain → (list-places value-places : ℕ) → ℕ
@@ -55,9 +63,9 @@ marks-of d = marks (centred-of d)
 unfoldable pub marks-after : Domain → (list-places value-places : ℕ) → (old : List ℕ) → List ℕ
 marks-after d m n old = unless-refused (domain-number d m n) (marks-of d) old
 
--- the caller's list: the hard arguments from the first place on, and the places after them as they were
+-- the caller's list: the hard arguments, each as origin + x, from the first place on, and the places after them as they were
 unfoldable pub list-after : Domain → (value-places : ℕ) → (old : List ℕ) → List ℕ
-list-after d n old = unless-refused (domain-number d (length old) n) (overwrite-front (hard-arguments d) old) old
+list-after d n old = unless-refused (domain-number d (length old) n) (overwrite-front (listed-arguments d) old) old
 
 -- and the caller's values: V(x) at the place of each hard argument x, and the places after them as they were
 unfoldable pub values-after : Domain → (list-places : ℕ) → (old : List ℕ) → List ℕ
@@ -87,8 +95,8 @@ too-few p m n = first-failing (room (hard-list p) m n)
 abbrev pub marks-with : (number : ℕ) → Parabola → (old : List ℕ) → List ℕ
 marks-with n p old = unless-refused n (marks p) old
 
-abbrev pub list-with : (number : ℕ) → Parabola → (old : List ℕ) → List ℕ
-list-with n p old = unless-refused n (overwrite-front (hard-list p) old) old
+abbrev pub list-with : (number : ℕ) → (origin : ℕ) → Parabola → (old : List ℕ) → List ℕ
+list-with n origin p old = unless-refused n (overwrite-front (listed-from origin p) old) old
 
 abbrev pub values-with : (number : ℕ) → (raise : ℕ) → Parabola → (old : List ℕ) → List ℕ
 values-with n raise p old = unless-refused n (overwrite-front (lowered-values raise p) old) old

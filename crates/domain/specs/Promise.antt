@@ -1,6 +1,6 @@
 -- What is promised of domains and of scans (the second demand), with the letters of document 01: M the modulus, c0 the value, c1 the slope,
--- s the curve, N the count, w the window; of a segment a the step and b the start. `Promised`, at the end, is all of it;
--- proofs/Promises.antt proves it. Assumes nothing: these are statements.
+-- s the curve, N the count, w the window; x is an argument below N, and y = origin + x as a domain lists it; of a segment a the step and b the start.
+-- `Promised`, at the end, is all of it; proofs/Promises.antt proves it. Assumes nothing: these are statements.
 use mathlib.Core.Path.{_≡_}
 use mathlib.Core.List.{List, [], _∷_}
 use mathlib.Core.Logic.{_↔_, _⊎_}
@@ -22,7 +22,7 @@ use Rattle.segment.specs.declared.Verdict.{Verdict}
 use Rattle.segment.specs.declared.Verdict.the-variants.{Clear, Possible}
 use Rattle.parabola.specs.Parabola.{Parabola, value-at, slope-at, second-difference, covering, continued, part-start, part-count, part}
 use Rattle.parabola.specs.Promise.{Values-correct, Covers-both-by, Covering-both-correct, Centred-correct, Eight-parts-correct, Parts-correct}
-use Rattle.domain.specs.Domain.{parabola-of, centred-of, hard-arguments, hard-values, covering-of, part-covering, Accepted}
+use Rattle.domain.specs.Domain.{parabola-of, centred-of, hard-arguments, listed-arguments, hard-values, covering-of, part-covering, Searchable, Accepted, with-origin}
 use Rattle.domain.specs.Phases.{mark-of}
 use Rattle.domain.specs.Scan.{next-point}
 use Rattle.domain.specs.Answer.{domain-answer, marks-of, marks-after, list-after, values-after, domain-refusal, domain-first, domain-count, hard-residues, scan-answer, scan-list-after, scan-values-after, scan-refusal, scan-count}
@@ -51,14 +51,22 @@ Value-in-numbers d x v =
     (v < d .modulus)
     × ((k : ℤ) × (pos (2 * v) ≡ pos (2 * (d .value + d .slope * x)) +ℤ d .curve *ℤ pos (x * (x - 1)) +ℤ k *ℤ pos (2 * d .modulus)))
 
--- values stand beside arguments: there are as many, and each is the value of the argument at its place
-pub record Values-beside (d : Domain) (arguments values : List ℕ) : Type 0 where
-  pub as-many : length values ≡ length arguments
-  pub each : (i : ℕ) → i < length arguments → Value-in-numbers d (getD arguments i 0) (getD values i 0)
-
 -- what hard means: below N, with a value v that is less than w from a multiple of M: v < w or M - v < w
 abbrev pub Hard-in-numbers : Domain → (x : ℕ) → Type 0
 Hard-in-numbers d x = (x < d .count) × ((v : ℕ) × Value-in-numbers d x v × ((v < d .window) ⊎ (d .modulus - v < d .window)))
+
+-- what is listed: y is origin + x for a hard argument x
+abbrev pub Listed-in-numbers : Domain → (y : ℕ) → Type 0
+Listed-in-numbers d y = (x : ℕ) × (y ≡ d .origin + x) × Hard-in-numbers d x
+
+-- and what stands beside y: V(x) of that x, whatever the origin is
+abbrev pub Beside-in-numbers : Domain → (y v : ℕ) → Type 0
+Beside-in-numbers d y v = (x : ℕ) × (y ≡ d .origin + x) × Value-in-numbers d x v
+
+-- values stand beside listed arguments: there are as many, and each is the value for the argument at its place
+pub record Values-beside (d : Domain) (arguments values : List ℕ) : Type 0 where
+  pub as-many : length values ≡ length arguments
+  pub each : (i : ℕ) → i < length arguments → Beside-in-numbers d (getD arguments i 0) (getD values i 0)
 
 -- by the distance: c0 + c1·x + s·x(x-1)/2 is less than w from some multiple of M, and so from the nearest one. All is doubled here too
 abbrev pub Near-a-multiple : Domain → (x : ℕ) → Type 0
@@ -147,6 +155,7 @@ Asked d list-places value-places =
     ∷ condition 4 ((1 ≤ d .count) × (d .count ≤ 1048576))
     ∷ condition 5 ((1 ≤ d .window) × (d .window ≤ d .modulus))
     ∷ condition 6 (natAbs (d .curve) ≤ 1048576)
+    ∷ condition 11 (d .origin ≤ 2 ^ 52)
     ∷ condition 7 ((length (hard-arguments d) ≤ list-places) × (length (hard-arguments d) ≤ value-places))
     ∷ []
 
@@ -183,17 +192,29 @@ pub record Domain-correct (d : Domain) (old-marks old old-values : List ℕ) (an
   pub cleared : (n : ℕ) → answer ≡ domain-variants.Searched Clear n
       → (n ≡ 0) × (new ≡ old) × (new-values ≡ old-values) × ((x : ℕ) → Hard-in-numbers d x → ⊥)
   pub written : (v : Verdict) (n : ℕ) → answer ≡ domain-variants.Searched v n
-      → (new-marks ≡ marks-of d) × (new ≡ overwrite-front (hard-arguments d) old) × (new-values ≡ overwrite-front (hard-values d) old-values)
-  pub buffer : (v : Verdict) (n : ℕ) → answer ≡ domain-variants.Searched v n → Buffer-correct (hard-arguments d) old new
+      → (new-marks ≡ marks-of d) × (new ≡ overwrite-front (listed-arguments d) old) × (new-values ≡ overwrite-front (hard-values d) old-values)
+  pub buffer : (v : Verdict) (n : ℕ) → answer ≡ domain-variants.Searched v n → Buffer-correct (listed-arguments d) old new
   pub values-buffer : (v : Verdict) (n : ℕ) → answer ≡ domain-variants.Searched v n → Buffer-correct (hard-values d) old-values new-values
   -- from the call's numbers to what then lies in the caller's list, and that it ascends strictly there
-  pub hard : (v : Verdict) (n : ℕ) → answer ≡ domain-variants.Searched v n → Enumerates (Hard-in-numbers d) n (take n new)
+  pub hard : (v : Verdict) (n : ℕ) → answer ≡ domain-variants.Searched v n → Enumerates (Listed-in-numbers d) n (take n new)
   pub ascends : (v : Verdict) (n : ℕ) → answer ≡ domain-variants.Searched v n → (i j : ℕ) → i < j → j < n → getD new i 0 < getD new j 0
-  -- and what lies beside each listed argument is its value
-  pub values : (v : Verdict) (n : ℕ) → answer ≡ domain-variants.Searched v n → (i : ℕ) → i < n → Value-in-numbers d (getD new i 0) (getD new-values i 0)
+  -- and what lies beside each listed argument origin + x is V(x)
+  pub values : (v : Verdict) (n : ℕ) → answer ≡ domain-variants.Searched v n → (i : ℕ) → i < n → Beside-in-numbers d (getD new i 0) (getD new-values i 0)
   -- the places after them are as they were in both
   pub after : (v : Verdict) (n : ℕ) → answer ≡ domain-variants.Searched v n → (i : ℕ) → n ≤ i
       → (getD new i 0 ≡ getD old i 0) × (getD new-values i 0 ≡ getD old-values i 0)
+
+-- with another origin `o`, a domain is answered the same, leaves the same marks and values, and each listed argument moves by the difference of the origins, where
+-- both are at most 2^52
+pub record Origin-correct (d : Domain) (o : ℕ) (old-marks old old-values : List ℕ) : Type 0 where
+  -- it has the same other numbers
+  pub is : with-origin o d
+      ≡ record { origin = o; modulus = d .modulus; value = d .value; slope = d .slope; curve = d .curve; count = d .count; window = d .window }
+  pub same-answer : domain-answer (with-origin o d) (length old) (length old-values) ≡ domain-answer d (length old) (length old-values)
+  pub same-marks : marks-after (with-origin o d) (length old) (length old-values) old-marks ≡ marks-after d (length old) (length old-values) old-marks
+  pub same-values : values-after (with-origin o d) (length old) old-values ≡ values-after d (length old) old-values
+  pub moved : (v : Verdict) (n : ℕ) → domain-answer d (length old) (length old-values) ≡ domain-variants.Searched v n → (i : ℕ) → i < n
+      → getD (list-after (with-origin o d) (length old-values) old) i 0 + d .origin ≡ getD (list-after d (length old-values) old) i 0 + o
 
 -- what the scan of a segment is answered with a list `old` and values `old-values`, and what is then in them, `new` and `new-values`
 pub record Scan-correct (s : Segment) (old old-values : List ℕ) (answer : ScanAnswer) (new new-values : List ℕ) : Type 0 where
@@ -214,39 +235,43 @@ pub record Scan-correct (s : Segment) (old old-values : List ℕ) (answer : Scan
 
 pub record Promised : Type 0 where
   pub parabolas : (d : Domain) → Parabola-correct d
-  -- a domain is accepted exactly where its six numbers are within 01's bounds, as 02 changes them
-  pub accepted : (d : Domain)
-      → Accepted d
+  -- a domain is accepted exactly where its seven numbers are within 01's bounds, as 02 changes them; what the phases need does not depend on the origin
+  pub accepted : (d : Domain) → Accepted d ↔ (Searchable d × (d .origin ≤ 2 ^ 52))
+  pub searchable : (d : Domain)
+      → Searchable d
       ↔ ((2 ≤ d .modulus) × (d .modulus ≤ 2 ^ 62) × (d .slope < d .modulus) × (d .value < d .modulus) × (1 ≤ d .count) × (d .count ≤ 1048576)
       × (1 ≤ d .window) × (d .window ≤ d .modulus) × (natAbs (d .curve) ≤ 1048576))
   pub values : (d : Domain) → 0 < d .modulus → Values-correct (parabola-of d)
   -- the parabola that the phases search has the values raised by w - 1 and a window for both sides
-  pub centred : (d : Domain) → Accepted d → Centred-correct (parabola-of d)
+  pub centred : (d : Domain) → Searchable d → Centred-correct (parabola-of d)
   -- hard is what is less than w from the nearest multiple of M
-  pub nearest : (d : Domain) → Accepted d → (x : ℕ) → Hard-in-numbers d x ↔ Near-a-multiple d x
-  pub hard-lists : (d : Domain) → Accepted d → Enumerates (Hard-in-numbers d) (length (hard-arguments d)) (hard-arguments d)
-  pub hard-values-are : (d : Domain) → Accepted d → Values-beside d (hard-arguments d) (hard-values d)
-  pub coverings : (d : Domain) → Accepted d → Coverings-correct d
+  pub nearest : (d : Domain) → Searchable d → (x : ℕ) → Hard-in-numbers d x ↔ Near-a-multiple d x
+  pub hard-lists : (d : Domain) → Searchable d → Enumerates (Hard-in-numbers d) (length (hard-arguments d)) (hard-arguments d)
+  pub listed-are : (d : Domain) → Accepted d → Enumerates (Listed-in-numbers d) (length (hard-arguments d)) (listed-arguments d)
+  pub hard-values-are : (d : Domain) → Searchable d → Values-beside d (listed-arguments d) (hard-values d)
+  pub coverings : (d : Domain) → Searchable d → Coverings-correct d
   -- where parts begin and how long they are; the parts of a domain; and those of the parabola that the phases search, whose lists make up the list of the domain
   pub eight-parts : (d : Domain) → Eight-parts-correct (d .count)
-  pub parts : (d : Domain) → Accepted d → Parts-correct (parabola-of d)
-  pub centred-parts : (d : Domain) → Accepted d → Parts-correct (centred-of d)
+  pub parts : (d : Domain) → Searchable d → Parts-correct (parabola-of d)
+  pub centred-parts : (d : Domain) → Searchable d → Parts-correct (centred-of d)
   -- a scan goes from the value and the slope at x to those at x + 1
   pub differences : (p : Parabola) (x : ℕ) → 0 < p .unit
       → next-point (second-difference p) (p .unit) (record { value = value-at p x; slope = slope-at p x })
       ≡ record { value = value-at p (suc x); slope = slope-at p (suc x) }
-  pub phases : (d : Domain) → Accepted d → Phases-correct d
+  pub phases : (d : Domain) → Searchable d → Phases-correct d
   -- 1 to 5 refuse a domain exactly where they refuse the segment with its slope for the step and its value for the start
   pub refused-as-segment : (d : Domain) (list-places value-places n : ℕ) → 1 ≤ n → n ≤ 5
       → (domain-answer d list-places value-places ≡ domain-variants.Refused n)
       ↔ (segment.refusal (segment.asked (d .modulus) (d .slope) (d .value) (d .count) (d .window)) ≡ n)
   -- counts that were accepted before document 02's 2.2, the multiples of 8 from 8 on, have the marks of before: by the verdict on each of eight parts of N/8
   -- arguments, of which none is without arguments
-  pub marks-as-before : (d : Domain) → Accepted d → 8 ≤ d .count → d .count % 8 ≡ 0 → verdict regular (covering-of d) ≡ Possible → (i : ℕ) → i < 8
+  pub marks-as-before : (d : Domain) → Searchable d → 8 ≤ d .count → d .count % 8 ≡ 0 → verdict regular (covering-of d) ≡ Possible → (i : ℕ) → i < 8
       → getD (marks-of d) i 0 ≡ mark-of (verdict fine (covering (continued (centred-of d) (i * (d .count / 8)) (d .count / 8))))
   pub domains : (d : Domain) (old-marks old old-values : List ℕ)
       → Domain-correct d old-marks old old-values (domain-answer d (length old) (length old-values))
       (marks-after d (length old) (length old-values) old-marks) (list-after d (length old-values) old) (values-after d (length old) old-values)
+  -- nothing but the listed arguments depends on the origin
+  pub origins : (d : Domain) (o : ℕ) (old-marks old old-values : List ℕ) → d .origin ≤ 2 ^ 52 → o ≤ 2 ^ 52 → Origin-correct d o old-marks old old-values
   pub scans : (M a b N w : ℕ) (old old-values : List ℕ)
       → segment-promise.for-segment
       (λ s. Scan-correct s old old-values (scan-answer M a b N w (length old) (length old-values))

@@ -1,4 +1,4 @@
--- A scan's way from a value to the next, and what it writes beside each hard argument, for the contracts of the functions that do it. Assumes nothing: these are
+-- A scan's way from a value to the next, and what it writes of each hard argument, for the contracts of the functions that do it. Assumes nothing: these are
 -- definitions.
 use mathlib.Core.List.{List, map}
 use Prim.Native.Nat.{ℕ, _+_, _-_, _%_, _^_, _≤_, _<_}
@@ -15,6 +15,10 @@ pub record Point-below (second modulus : ℕ) (p : Point) : Type 0 where
   pub slope-below : p .slope < modulus
   pub second-below : second < modulus
   pub modulus-high : modulus ≤ 2 ^ 62
+
+-- the hard arguments of a parabola whose first argument is listed as `begin`
+abbrev pub listed-from : (begin : ℕ) → Parabola → List ℕ
+listed-from begin p = map (λ x. begin + x) (hard-list p)
 
 -- a value that was raised, as it was before, modulo M
 unfoldable pub lowered : (raise modulus value : ℕ) → ℕ

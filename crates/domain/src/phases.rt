@@ -1,14 +1,13 @@
 // The eight parts of an arc that phase 1 did not clear: examined, and then those with hard arguments listed.
 ghost use mathlib.Core.Path.{_≡_};
-ghost use mathlib.Core.List.{map};
-ghost use Prim.Native.Nat.{_+_, _≤_, _<_};
+ghost use Prim.Native.Nat.{_+_, _^_, _≤_, _<_};
 ghost use lib.ListN.{length};
 ghost use lib.Seq.{sets};
 ghost use Rattle.numbers.specs.Lists.{overwrite-front};
 ghost use Rattle.parabola.specs.Parabola.{In-range, hard-list, part, part-start, part-count};
 ghost use Rattle.arc.specs.Arc.{parabola};
 ghost use Rattle.domain.specs.Phases.{part-report, hard-counts, report};
-ghost use Rattle.domain.specs.Scan.{lowered-values};
+ghost use Rattle.domain.specs.Scan.{listed-from, lowered-values};
 use crate::scan::count_hard;
 use crate::scan::list_hard;
 use arc::Arc;
@@ -105,21 +104,29 @@ pub(crate) fn examine_parts(arc: Arc) -> Report
     }
 }
 
-// The second half of phase 3, once it is known that the list and the values have room for all.
-pub(crate) fn list_parts(arc: Arc, raise: u64, hard: [u32; 8], list: &mut [u32], values: &mut [u64])
+// The second half of phase 3, once it is known that the list and the values have room for all. An argument x is listed as origin + x.
+pub(crate) fn list_parts(
+    arc: Arc,
+    origin: u64,
+    raise: u64,
+    hard: [u32; 8],
+    list: &mut [u64],
+    values: &mut [u64],
+)
     requires { ⌜ In-range (parabola arc) ⌝ }
+    requires { ⌜ origin ≤ 2 ^ 52 ⌝ }
     requires { ⌜ raise < arc .modulus ⌝ }
     requires { ⌜ hard ≡ hard-counts (parabola arc) ⌝ }
     requires { ⌜ length (hard-list (parabola arc)) ≤ length (now list) ⌝ }
     requires { ⌜ length (hard-list (parabola arc)) ≤ length (now values) ⌝ }
-    ensures { λ _. ⌜ now (list .exit) ≡ overwrite-front (hard-list (parabola arc)) (now (list .entry)) ⌝ }
+    ensures { λ _. ⌜ now (list .exit) ≡ overwrite-front (listed-from origin (parabola arc)) (now (list .entry)) ⌝ }
     ensures { λ _. ⌜ now (values .exit) ≡ overwrite-front (lowered-values raise (parabola arc)) (now (values .entry)) ⌝ }
 {
     let mut place: usize = 0;
     let mut i: usize = 0;
     while i < 8 {
         let number = hard[i];
-        list_part(arc, raise, i as u64, number, list, values, place);
+        list_part(arc, origin, raise, i as u64, number, list, values, place);
         place = place + number as usize;
         i = i + 1;
     }
@@ -128,20 +135,22 @@ pub(crate) fn list_parts(arc: Arc, raise: u64, hard: [u32; 8], list: &mut [u32],
 // A part without hard arguments has nothing to list, and is not made.
 fn list_part(
     arc: Arc,
+    origin: u64,
     raise: u64,
     i: u64,
     number: u32,
-    list: &mut [u32],
+    list: &mut [u64],
     values: &mut [u64],
     place: usize,
 )
     requires { ⌜ In-range (parabola arc) ⌝ }
+    requires { ⌜ origin ≤ 2 ^ 52 ⌝ }
     requires { ⌜ raise < arc .modulus ⌝ }
     requires { ⌜ i < 8 ⌝ }
     requires { ⌜ number ≡ length (hard-list (part (parabola arc) i)) ⌝ }
     requires { ⌜ place + number ≤ length (now list) ⌝ }
     requires { ⌜ place + number ≤ length (now values) ⌝ }
-    ensures { λ _. ⌜ now (list .exit) ≡ sets (now (list .entry)) place (map (λ x. part-start (arc .count) i + x) (hard-list (part (parabola arc) i))) ⌝ }
+    ensures { λ _. ⌜ now (list .exit) ≡ sets (now (list .entry)) place (listed-from (origin + part-start (arc .count) i) (part (parabola arc) i)) ⌝ }
     ensures { λ _. ⌜ now (values .exit) ≡ sets (now (values .entry)) place (lowered-values raise (part (parabola arc) i)) ⌝ }
 {
     if number == 0 {
@@ -150,7 +159,7 @@ fn list_part(
     list_hard(
         part(arc, i),
         raise,
-        part_start(arc.count, i) as u32,
+        origin + part_start(arc.count, i),
         number,
         list,
         values,

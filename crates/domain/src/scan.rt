@@ -1,12 +1,11 @@
 // Scans: the hard arguments of an arc counted, and listed with their values, by going from each value to the next.
 ghost use mathlib.Core.Path.{_≡_};
-ghost use mathlib.Core.List.{map};
 ghost use Prim.Native.Nat.{_+_, _-_, _%_, _^_, _≤_, _<_};
 ghost use lib.ListN.{length};
 ghost use lib.Seq.{sets};
 ghost use Rattle.parabola.specs.Parabola.{In-range, hard-list};
 ghost use Rattle.arc.specs.Arc.{parabola};
-ghost use Rattle.domain.specs.Scan.{Point-below, next-point, lowered-values};
+ghost use Rattle.domain.specs.Scan.{Point-below, next-point, listed-from, lowered-values};
 use arc::Arc;
 use numbers::remainder;
 
@@ -91,24 +90,24 @@ pub(crate) fn count_hard(arc: Arc) -> u32
     number
 }
 
-// Writes the hard arguments, of which there are `number`, into the list from a place on, each larger by `begin`, where the arc begins in the domain, and beside each
-// its value as it was before the arc was raised. It ends with the last of them. The next value is formed before this one is written, so that the sum and the writes overlap.
+// Writes the hard arguments, of which there are `number`, into the list from a place on, each larger by `begin`, which stands for the arc's first argument, and beside
+// each its value as it was before the arc was raised. It ends with the last of them. The next value is formed before this one is written, so that the sum and the writes overlap.
 pub(crate) fn list_hard(
     arc: Arc,
     raise: u64,
-    begin: u32,
+    begin: u64,
     number: u32,
-    list: &mut [u32],
+    list: &mut [u64],
     values: &mut [u64],
     place: usize,
 )
     requires { ⌜ In-range (parabola arc) ⌝ }
     requires { ⌜ raise < arc .modulus ⌝ }
     requires { ⌜ number ≡ length (hard-list (parabola arc)) ⌝ }
-    requires { ⌜ begin ≤ 1048576 ⌝ }
+    requires { ⌜ begin ≤ 2 ^ 53 ⌝ }
     requires { ⌜ place + number ≤ length (now list) ⌝ }
     requires { ⌜ place + number ≤ length (now values) ⌝ }
-    ensures { λ _. ⌜ now (list .exit) ≡ sets (now (list .entry)) place (map (λ x. begin + x) (hard-list (parabola arc))) ⌝ }
+    ensures { λ _. ⌜ now (list .exit) ≡ sets (now (list .entry)) place (listed-from begin (parabola arc)) ⌝ }
     ensures { λ _. ⌜ now (values .exit) ≡ sets (now (values .entry)) place (lowered-values raise (parabola arc)) ⌝ }
 {
     let second = remainder(arc.curve, arc.modulus);
@@ -132,12 +131,12 @@ pub(crate) fn list_hard(
 }
 
 // The same for an arc that is not raised, whose arguments are all hard, from the first place on. There is nothing to test.
-pub(crate) fn list_all(arc: Arc, list: &mut [u32], values: &mut [u64])
+pub(crate) fn list_all(arc: Arc, list: &mut [u64], values: &mut [u64])
     requires { ⌜ In-range (parabola arc) ⌝ }
     requires { ⌜ length (hard-list (parabola arc)) ≡ arc .count ⌝ }
     requires { ⌜ arc .count ≤ length (now list) ⌝ }
     requires { ⌜ arc .count ≤ length (now values) ⌝ }
-    ensures { λ _. ⌜ now (list .exit) ≡ sets (now (list .entry)) 0 (map (λ x. 0 + x) (hard-list (parabola arc))) ⌝ }
+    ensures { λ _. ⌜ now (list .exit) ≡ sets (now (list .entry)) 0 (listed-from 0 (parabola arc)) ⌝ }
     ensures { λ _. ⌜ now (values .exit) ≡ sets (now (values .entry)) 0 (lowered-values 0 (parabola arc)) ⌝ }
 {
     let second = remainder(arc.curve, arc.modulus);
@@ -145,8 +144,8 @@ pub(crate) fn list_all(arc: Arc, list: &mut [u32], values: &mut [u64])
         value: arc.value,
         slope: arc.slope,
     };
-    let end = arc.count as u32;
-    let mut x: u32 = 0;
+    let end = arc.count;
+    let mut x: u64 = 0;
     while x < end {
         list[x as usize] = x;
         values[x as usize] = point.value;

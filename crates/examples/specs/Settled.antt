@@ -129,7 +129,7 @@ pub record Example-9 : Type 0 where
 
 -- job J's domain, M 45, c0 44, c1 31, with any count, curve and window
 abbrev pub J-with : (count : ℕ) (s : ℤ) (window : ℕ) → Domain
-J-with n s w = record { modulus = 45; value = 44; slope = 31; curve = s; count = n; window = w }
+J-with n s w = record { origin = 0; modulus = 45; value = 44; slope = 31; curve = s; count = n; window = w }
 
 -- with job J's own curve and window, s 0 and w 3
 abbrev pub J-of : (count : ℕ) → Domain
@@ -157,7 +157,7 @@ pub record Example-10 : Type 0 where
 
 -- the domain M 45, c0 0, c1 0, N 8, w 1 with a curve
 abbrev pub bent : (s : ℤ) → Domain
-bent s = record { modulus = 45; value = 0; slope = 0; curve = s; count = 8; window = 1 }
+bent s = record { origin = 0; modulus = 45; value = 0; slope = 0; curve = s; count = 8; window = 1 }
 
 -- with s 1: parts 22111111, list 0, 1 with the values 0, 0. With s -1 the same
 pub record Example-11 : Type 0 where
@@ -174,21 +174,21 @@ pub record Example-11 : Type 0 where
 
 -- the line 3 + 3x modulo 10
 abbrev pub line-of-10 : (window : ℕ) → Domain
-line-of-10 w = record { modulus = 10; value = 3; slope = 3; curve = pos 0; count = 8; window = w }
+line-of-10 w = record { origin = 0; modulus = 10; value = 3; slope = 3; curve = pos 0; count = 8; window = w }
 
 -- a constant modulo 11, with so many arguments
 abbrev pub constant-of : (count value window : ℕ) → Domain
-constant-of n v w = record { modulus = 11; value = v; slope = 0; curve = pos 0; count = n; window = w }
+constant-of n v w = record { origin = 0; modulus = 11; value = v; slope = 0; curve = pos 0; count = n; window = w }
 
 abbrev pub constant-of-11 : (value window : ℕ) → Domain
 constant-of-11 v w = constant-of 8 v w
 
 -- parabolas with a window of 2
 abbrev pub rising-arc : Domain
-rising-arc = record { modulus = 45; value = 17; slope = 17; curve = pos 1; count = 8; window = 2 }
+rising-arc = record { origin = 0; modulus = 45; value = 17; slope = 17; curve = pos 1; count = 8; window = 2 }
 
 abbrev pub falling-arc : Domain
-falling-arc = record { modulus = 45; value = 11; slope = 8; curve = negsuc 0; count = 8; window = 2 }
+falling-arc = record { origin = 0; modulus = 45; value = 11; slope = 8; curve = negsuc 0; count = 8; window = 2 }
 
 pub record Both-sides : Type 0 where
   -- a window of 2 lists 2 and 6, whose values are 9 and 1; a window of 6 lists all
@@ -224,10 +224,10 @@ pub record Both-sides : Type 0 where
 
 -- parabolas with 12 arguments and a window of 2
 abbrev pub rising-12 : Domain
-rising-12 = record { modulus = 45; value = 0; slope = 40; curve = pos 1; count = 12; window = 2 }
+rising-12 = record { origin = 0; modulus = 45; value = 0; slope = 40; curve = pos 1; count = 12; window = 2 }
 
 abbrev pub falling-12 : Domain
-falling-12 = record { modulus = 45; value = 0; slope = 4; curve = negsuc 0; count = 12; window = 2 }
+falling-12 = record { origin = 0; modulus = 45; value = 0; slope = 4; curve = negsuc 0; count = 12; window = 2 }
 
 pub record Any-length : Type 0 where
   -- eight parts of 12 arguments: the first four have two, the others one
@@ -335,6 +335,50 @@ pub record Values-beside-arguments : Type 0 where
   -- a cleared domain has no value
   pub cleared-values : (x : ℕ) → values-after (J-with 16 (pos 0) 1) 0 (x ∷ []) ≡ x ∷ []
 
+-- ---- arguments counted from the binade (2.7)
+
+-- job J with any origin and curve
+abbrev pub J-from : (origin : ℕ) (s : ℤ) → Domain
+J-from o s = record { origin = o; modulus = 45; value = 44; slope = 31; curve = s; count = 16; window = 3 }
+
+pub record Counted-from-the-binade : Type 0 where
+  -- job J with the origin 2^52, bytes in and bytes out
+  pub prints : output-of (bytes "origin=4503599627370496\nmodulus=45\nvalue=44\nslope=31\ncurve=0\ncount=16\nwindow=3\n")
+      ≡ bytes "first=possible\nparts=22111111\nlisted=2\nargument=4503599627370496 value=44\nargument=4503599627370499 value=2\n"
+  pub read : reading (bytes "origin=4503599627370496\nmodulus=45\nvalue=44\nslope=31\ncurve=0\ncount=16\nwindow=3\n")
+      ≡ Read (J-from 4503599627370496 (pos 0))
+  -- with origin 1, and with origin 0, which is J
+  pub prints-1 : output-of (bytes "origin=1\nmodulus=45\nvalue=44\nslope=31\ncurve=0\ncount=16\nwindow=3\n")
+      ≡ bytes "first=possible\nparts=22111111\nlisted=2\nargument=1 value=44\nargument=4 value=2\n"
+  pub prints-0 : output-of (bytes "origin=0\nmodulus=45\nvalue=44\nslope=31\ncurve=0\ncount=16\nwindow=3\n")
+      ≡ bytes "first=possible\nparts=22111111\nlisted=2\nargument=0 value=44\nargument=3 value=2\n"
+  pub read-0 : reading (bytes "origin=0\nmodulus=45\nvalue=44\nslope=31\ncurve=0\ncount=16\nwindow=3\n") ≡ Read J
+  -- above 2^52, up to 2^64 - 1, it is 11; 2^64 is malformed
+  pub prints-above : output-of (bytes "origin=4503599627370497\nmodulus=45\nvalue=44\nslope=31\ncurve=0\ncount=16\nwindow=3\n") ≡ bytes "refused=11\n"
+  pub prints-most : output-of (bytes "origin=18446744073709551615\nmodulus=45\nvalue=44\nslope=31\ncurve=0\ncount=16\nwindow=3\n") ≡ bytes "refused=11\n"
+  pub prints-more : output-of (bytes "origin=18446744073709551616\nmodulus=45\nvalue=44\nslope=31\ncurve=0\ncount=16\nwindow=3\n") ≡ bytes "refused=8\n"
+  -- the line twice, after that of the modulus, with a sign, with a leading zero, and instead of the window's
+  pub prints-twice : output-of (bytes "origin=0\norigin=0\nmodulus=45\nvalue=44\nslope=31\ncurve=0\ncount=16\nwindow=3\n") ≡ bytes "refused=8\n"
+  pub prints-after : output-of (bytes "modulus=45\norigin=0\nvalue=44\nslope=31\ncurve=0\ncount=16\nwindow=3\n") ≡ bytes "refused=8\n"
+  pub prints-signed : output-of (bytes "origin=+1\nmodulus=45\nvalue=44\nslope=31\ncurve=0\ncount=16\nwindow=3\n") ≡ bytes "refused=8\n"
+  pub prints-zeros : output-of (bytes "origin=00\nmodulus=45\nvalue=44\nslope=31\ncurve=0\ncount=16\nwindow=3\n") ≡ bytes "refused=8\n"
+  pub prints-six : output-of (bytes "origin=0\nmodulus=45\nvalue=44\nslope=31\ncurve=0\ncount=16\n") ≡ bytes "refused=8\n"
+  -- nothing may follow the line feed of the window line
+  pub prints-longer : output-of (bytes "origin=0\nmodulus=45\nvalue=44\nslope=31\ncurve=0\ncount=16\nwindow=3\n\n") ≡ bytes "refused=8\n"
+  -- in the call's answers and buffers: marks and values are J's
+  pub answered : domain-answer (J-from 4503599627370496 (pos 0)) 2 2 ≡ domain-variants.Searched Possible 2
+  pub marks : (old : List ℕ) → marks-after (J-from 4503599627370496 (pos 0)) 2 2 old ≡ 2 ∷ 2 ∷ 1 ∷ 1 ∷ 1 ∷ 1 ∷ 1 ∷ 1 ∷ []
+  pub left : (x y z : ℕ) → list-after (J-from 4503599627370496 (pos 0)) 2 (x ∷ y ∷ z ∷ []) ≡ 4503599627370496 ∷ 4503599627370499 ∷ z ∷ []
+  pub values : (x y z : ℕ) → values-after (J-from 4503599627370496 (pos 0)) 2 (x ∷ y ∷ z ∷ []) ≡ 44 ∷ 2 ∷ z ∷ []
+  -- 6 comes before 11, and 11 before 7; the buffers stay as they were
+  pub curve-and-above : (m n : ℕ) → domain-answer (J-from 4503599627370497 (pos 1048577)) m n ≡ domain-variants.Refused 6
+  pub above-alone : (m n : ℕ) → domain-answer (J-from 4503599627370497 (pos 0)) m n ≡ domain-variants.Refused 11
+  pub most-alone : (m n : ℕ) → domain-answer (J-from 18446744073709551615 (pos 0)) m n ≡ domain-variants.Refused 11
+  pub too-few : domain-answer (J-from 4503599627370496 (pos 0)) 1 2 ≡ domain-variants.Refused 7
+  pub above-marks : (m n : ℕ) (old : List ℕ) → marks-after (J-from 4503599627370497 (pos 0)) m n old ≡ old
+  pub above-left : (n : ℕ) (old : List ℕ) → list-after (J-from 4503599627370497 (pos 0)) n old ≡ old
+  pub above-values : (m : ℕ) (old : List ℕ) → values-after (J-from 4503599627370497 (pos 0)) m old ≡ old
+
 -- ---- digits of an argument, and modular division (2.4)
 
 -- an answer with these digits, so many
@@ -421,4 +465,5 @@ pub record Settled : Type 0 where
   pub any-length : Any-length
   pub windows-from-1 : Windows-from-1
   pub values-beside-arguments : Values-beside-arguments
+  pub counted-from-the-binade : Counted-from-the-binade
   pub digits-and-division : Digits-and-division

@@ -1,4 +1,5 @@
 mod Reports
 mod Outputs
+mod Longest
 mod Renderings
 pub mod Promises

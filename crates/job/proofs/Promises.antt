@@ -1,28 +1,31 @@
 -- The promises of specs/Promise.antt. Assumes nothing.
 use mathlib.Core.Path.{_≡_, refl, sym, ap, _∙_}
 use mathlib.Core.List.{List}
+use mathlib.Core.Logic.{inl, ⊎-elim}
 use Prim.Native.Nat.{ℕ, _+_, _<_}
 use native.Mathlib.Omega.{arith}
-use lib.ListN.{getD}
+use lib.ListN.{length, getD}
 use Rattle.numbers.proofs.Buffers.{front-correct}
 use Rattle.domain.specs.declared.Domain.{Domain}
 use Rattle.domain.proofs.Promises as domain
 use Rattle.text.specs.Text.{bytes, decimal-within, decimal}
 use Rattle.text.proofs.Laws.{one-digit}
-use Rattle.job.specs.Reading.{rendering, In-range, reading}
+use Rattle.job.specs.Reading.{six-lines, rendering, reading}
 use Rattle.job.specs.Output.{answer-of, verdict-name, argument-lines, refused, report, printed, output-with, output-of}
 use Rattle.job.specs.Promise.{Text-correct, Output-correct, Promised}
 use Rattle.job.specs.declared.Reading.{Reading}
 use Rattle.job.specs.declared.Reading.the-variants.{Read, Malformed}
-use Rattle.job.proofs.Outputs.{search-refuses, number-small, marks-correct, hard-listed, values-listed, printed-refused, printed-report, by-answer, output-short}
+use Rattle.job.proofs.Outputs.{search-refuses, number-is, marks-correct, hard-listed, values-listed, printed-refused, printed-report, by-answer, output-short}
+use Rattle.job.proofs.Longest.{longest-answered, longest-printed}
 use Rattle.job.proofs.Renderings.{reading-correct}
 
 text-correct : Text-correct
-unfolding rendering verdict-name argument-lines refused report
+unfolding six-lines rendering verdict-name argument-lines refused report
 text-correct =
     record {
-      lines = λ M c0 c1 s N w. refl;
-      range = λ M c0 c1 s N w. (λ r. omega arith, λ h. omega arith);
+      origin-line = λ o M c0 c1 s N w. refl;
+      lines = λ o M c0 c1 s N w. refl;
+      range = λ o M c0 c1 s N w. (λ r. omega arith, λ h. omega arith);
       report-is = λ first marks arguments values. refl;
       names = (refl, refl);
       no-mark = refl;
@@ -43,10 +46,18 @@ digit-at : (n : ℕ) → n < 10 → getD (refused n) 8 0 ≡ 48 + n
 unfolding refused
 digit-at n h = rw (one-digit n h)
 
+eleven-at : getD (refused 11) 8 0 ≡ 49
+unfolding decimal-within decimal refused
+eleven-at = refl
+
 no-job-eight : (d : Domain) → printed d ≡ bytes "refused=8\n" → ⊥
 no-job-eight d e =
     by-answer (answer-of d)
-    (λ n r. let s = number-small d r in omega (arith, s, digit-at n (omega arith), ap (λ (l : List ℕ). getD l 8 0) (sym (printed-refused d r) ∙ e)))
+    (λ n r.
+    let ninth = ap (λ (l : List ℕ). getD l 8 0) (sym (printed-refused d r) ∙ e) in
+    ⊎-elim (λ small. omega (arith, small, digit-at n (omega arith), ninth))
+    (λ eleven. omega (arith, ap (λ (k : ℕ). getD (refused k) 8 0) eleven, eleven-at, ninth))
+    (number-is d r))
     (λ v n r. unfold report in let b = ap (λ (l : List ℕ). getD l 0 0) (sym (printed-report d r) ∙ e) in omega (arith, b))
 
 malformed-of : (r : Reading) → output-with r ≡ bytes "refused=8\n" → r ≡ Malformed
@@ -54,15 +65,15 @@ unfolding output-with
 malformed-of Malformed e = refl
 malformed-of (Read d) e = absurd (no-job-eight d e)
 
--- ---- the output of a rendering
+-- ---- the output of a job's text
 
 five-printed : refused 5 ≡ bytes "refused=5\n"
 unfolding decimal-within decimal refused
 five-printed = refl
 
-output-is : (d : Domain) → In-range d → output-of (rendering d) ≡ printed d
+output-is : (t : List ℕ) {d : Domain} → reading t ≡ Read d → output-of t ≡ printed d
 unfolding output-of output-with
-output-is d h = ap output-with (reading-correct .read (rendering d) d .1 (h, refl))
+output-is t e = ap output-with e
 
 output-correct : Output-correct
 unfolding output-of
@@ -71,15 +82,16 @@ output-correct =
       malformed = λ t. ((λ e. ap output-with e ∙ eight-printed), malformed-of (reading t));
       asked = λ d. refl;
       refuses = search-refuses;
-      job-refused = λ d n h e. output-is d h ∙ printed-refused d e;
-      without-window = λ d e low high slope value some most curve.
-          output-is d (omega arith) ∙ printed-refused d (domain.promised .without-window d e .refused 4096 4096 low high slope value some most) ∙ five-printed;
-      job-reported = λ d first listed h e. output-is d h ∙ printed-report d e;
+      job-refused = λ t d n s e. output-is t s ∙ printed-refused d e;
+      without-window = λ t d s e low high slope value some most.
+          output-is t s ∙ printed-refused d (domain.promised .without-window d e .refused 4096 4096 low high slope value some most) ∙ five-printed;
+      job-reported = λ t d first listed s e. output-is t s ∙ printed-report d e;
       marked = λ d first listed e. marks-correct d e;
       hard = λ d first listed e. hard-listed d e;
       values = λ d first listed e. values-listed d e;
       longest-is = refl;
       fits = λ t. output-short (reading t);
+      longest-output = (rendering longest-answered, ap length (output-is (rendering longest-answered) (reading-correct .read (rendering longest-answered) longest-answered .1 (omega arith, inl refl))) ∙ longest-printed);
       buffer = λ t old e. front-correct (output-with (reading t)) old (omega (arith, e, output-short (reading t)));
       front-enough = λ t. ap output-with (reading-correct .front-decides t 4096 (omega arith));
     }

@@ -4,7 +4,7 @@ use Prim.Native.Nat.{ℕ, _<_}
 use lib.ListN.{length, getD}
 use Rattle.segment.specs.declared.Verdict.{Verdict}
 use Rattle.segment.specs.declared.Verdict.the-variants.{Clear, Possible}
-use Rattle.domain.specs.Domain.{hard-arguments, hard-values}
+use Rattle.domain.specs.Domain.{listed-arguments, hard-values}
 use Rattle.domain.specs.Answer.{domain-answer, marks-of, marks-after, list-after, values-after}
 use Rattle.domain.specs.declared.Domain.{Domain}
 use Rattle.domain.specs.declared.DomainAnswer.{DomainAnswer}
@@ -18,9 +18,9 @@ use Rattle.job.specs.declared.Reading.the-variants.{Read, Malformed}
 abbrev pub places : ℕ
 places = 4096
 
--- and for what is printed: the longest answer has 4,096 arguments of seven digits with values of nineteen
+-- and for what is printed: the longest answer has 4,096 arguments of sixteen digits with values of nineteen
 abbrev pub longest : ℕ
-longest = 176170
+longest = 213034
 
 -- the answer of the domain search for a job
 abbrev pub answer-of : Domain → DomainAnswer
@@ -63,7 +63,7 @@ report first marks arguments values =
 -- what is printed of a domain that got this answer
 unfoldable pub printed-for : DomainAnswer → Domain → List ℕ
 printed-for (Refused n) d = refused n
-printed-for (Searched first listed) d = report first (marks-of d) (hard-arguments d) (hard-values d)
+printed-for (Searched first listed) d = report first (marks-of d) (listed-arguments d) (hard-values d)
 
 unfoldable pub printed : Domain → List ℕ
 printed d = printed-for (answer-of d) d

@@ -24,7 +24,7 @@ pub(crate) fn put_refusal(number: u64, out: &mut [u8]) -> usize
 pub(crate) fn put_report(
     first: segment::Verdict,
     marks: &[u8],
-    arguments: &[u32],
+    arguments: &[u64],
     values: &[u64],
     out: &mut [u8],
 ) -> usize
@@ -87,7 +87,7 @@ fn put_marks(marks: &[u8], out: &mut [u8], at: usize) -> usize
 }
 
 // A line for each argument and its value.
-fn put_arguments(arguments: &[u32], values: &[u64], out: &mut [u8], at: usize) -> usize
+fn put_arguments(arguments: &[u64], values: &[u64], out: &mut [u8], at: usize) -> usize
     requires { ⌜ length (now values) ≡ length (now arguments) ⌝ }
     ensures { λ r. ⌜ r ≡ place-after at (argument-lines (now (arguments .entry)) (now (values .entry))) (now (out .entry)) ⌝ }
     ensures { λ r. ⌜ now (out .exit) ≡ sets (now (out .entry)) at (argument-lines (now (arguments .entry)) (now (values .entry))) ⌝ }
@@ -96,7 +96,7 @@ fn put_arguments(arguments: &[u32], values: &[u64], out: &mut [u8], at: usize) -
     let mut end = at;
     while i < arguments.len() {
         let after_name = put(b"argument=", out, end);
-        let after_argument = put_number(arguments[i] as u64, out, after_name);
+        let after_argument = put_number(arguments[i], out, after_name);
         end = put_line(b" value=", values[i], out, after_argument);
         i = i + 1;
     }

@@ -1,9 +1,9 @@
 -- The two laws of a checklist: 0 is answered exactly where every condition holds, and a number exactly where its condition does not hold and
 -- every condition before it does. Assumes nothing.
-use mathlib.Core.Path.{_≡_, refl, sym, _∙_}
+use mathlib.Core.Path.{_≡_, refl, sym, subst, _∙_}
 use mathlib.Core.List.{List, [], _∷_, _++_}
 use mathlib.Core.Logic.{_↔_, inl, inr, by-cases}
-use Prim.Native.Nat.{ℕ, zero, suc, _≤_, _<_}
+use Prim.Native.Nat.{ℕ, zero, suc, _<_}
 use native.Mathlib.Omega.{arith}
 use Rattle.numbers.specs.Checklist.{Condition, Check, conditions, first-failing, All-hold, Refused-by, Numbered, unless-refused}
 
@@ -62,6 +62,14 @@ pub second-of-two : (cs ds : List Check) → All-hold (conditions cs) → first-
 second-of-two [] ds h = refl
 second-of-two (c ∷ cs) ds h = passed c (cs ++ ds) (h .0) ∙ second-of-two cs ds (h .1)
 
+-- a condition that holds may be left out
+pub without-holding : (cs : List Check) (c : Check) (ds : List Check) → c .condition .Holds → first-failing ((cs ++ (c ∷ [])) ++ ds) ≡ first-failing (cs ++ ds)
+without-holding [] c ds h = passed c ds h
+without-holding (k ∷ cs) c ds h =
+    by-cases (k .decided)
+    (λ l. passed k ((cs ++ (c ∷ [])) ++ ds) l ∙ without-holding cs c ds h ∙ sym (passed k (cs ++ ds) l))
+    (λ l. failed k ((cs ++ (c ∷ [])) ++ ds) l ∙ sym (failed k (cs ++ ds) l))
+
 -- nothing refuses in both exactly where nothing does in either
 pub neither-refuses : (cs ds : List Check) → Numbered (conditions cs) → (first-failing (cs ++ ds) ≡ 0) ↔ ((first-failing cs ≡ 0) × (first-failing ds ≡ 0))
 neither-refuses cs ds some = (λ e. to (first-failing cs) refl e, λ h. second-of-two cs ds (accepts cs some .0 (h .0)) ∙ h .1)
@@ -82,15 +90,15 @@ refused-positive [] some h = absurd h
 refused-positive (c ∷ cs) some (inl h) = omega (arith, some .0, h .0)
 refused-positive (c ∷ cs) some (inr h) = refused-positive cs (some .1) (h .1)
 
--- and none is above the largest number of the list
-abbrev pub At-most : (k : ℕ) → List Condition → Type 0
-At-most k [] = Unit
-At-most k (c ∷ cs) = (c .number ≤ k) × At-most k cs
+-- and what holds of every number of the list holds of it
+abbrev pub All-numbers : (P : ℕ → Type 0) → List Condition → Type 0
+All-numbers P [] = Unit
+All-numbers P (c ∷ cs) = P (c .number) × All-numbers P cs
 
-pub refused-at-most : (k : ℕ) (cs : List Condition) {n : ℕ} → At-most k cs → Refused-by cs n → n ≤ k
-refused-at-most k [] few h = absurd h
-refused-at-most k (c ∷ cs) few (inl h) = omega (arith, few .0, h .0)
-refused-at-most k (c ∷ cs) few (inr h) = refused-at-most k cs (few .1) (h .1)
+pub refused-number : (P : ℕ → Type 0) (cs : List Condition) {n : ℕ} → All-numbers P cs → Refused-by cs n → P n
+refused-number P [] all h = absurd h
+refused-number P (c ∷ cs) all (inl h) = subst P (sym (h .0)) (all .0)
+refused-number P (c ∷ cs) all (inr h) = refused-number P cs (all .1) (h .1)
 
 -- a checklist gives a number that is not 0 exactly where that number refuses
 pub gives : (cs : List Check) → Numbered (conditions cs) → (n : ℕ) → ((first-failing cs ≡ n) × (n ≡ 0 → ⊥)) ↔ Refused-by (conditions cs) n

@@ -2,19 +2,19 @@
 -- seen from elsewhere; and the values of a function, one after another. Assumes nothing.
 use mathlib.Core.Path.{_≡_, refl, sym, _∙_, ap, ap₂}
 use mathlib.Core.Bool.{Bool, true, false, cond}
-use mathlib.Core.List.{List, [], _∷_, _++_, map, List·Memᴰ, List·Memᴰ·not-nil, List·Memᴰ·cases-cons}
+use mathlib.Core.List.{List, [], _∷_, _++_, map, List·Memᴰ, List·Memᴰ·not-nil, List·Memᴰ·cases-cons, Memᴰ·cast, Memᴰ·map, Memᴰ·of-map}
 use mathlib.Core.List.List·Memᴰ.{List·Memᴰ·head, List·Memᴰ·tail}
 use mathlib.Core.Logic.{_↔_, ⊎-elim}
-use Prim.Native.Nat.{ℕ, zero, suc, _+_, _*_, _-_, _≤_, _<_}
+use Prim.Native.Nat.{ℕ, zero, suc, _+_, _*_, _-_, _^_, _≤_, _<_}
 use native.Mathlib.Nat.{eq-or-lt-of-le, zero-add, add-zero, sub-eq-zero-of-le}
 use native.Mathlib.Omega.{arith}
-use lib.ListN.{length, getD}
+use lib.ListN.{length, getD, length-map}
 use lib.Dec.{ltb}
 use mir.Val.{boolByte}
 use borrow.Author.Tests.{lt-ltb, ltb-true}
 use Rattle.numbers.specs.Lists.{filter-range, count-if, tabulate}
 use Rattle.numbers.specs.Promise.{Enumerates}
-use Rattle.numbers.proofs.Lists.{Ascending-from, ascending}
+use Rattle.numbers.proofs.Lists.{Ascending-from, ascending, mapped-at}
 use Rattle.numbers.proofs.Lists.Ascending-from.{ascending-nil, ascending-cons}
 
 module _ (p : ℕ → Bool) where
@@ -121,6 +121,23 @@ enumerates p P count most tells =
       ascending = ascending (filter-ascends p count 0 0 (omega arith));
       fits = λ x m. let r = filter-only p count 0 x m in omega (arith, r .1, most);
       counted = filter-counted p count 0;
+    }
+
+-- the same numbers, each larger by as much
+pub enumerates-moved : {holds : ℕ → Type 0} {number : ℕ} {xs : List ℕ} (by : ℕ) → Enumerates holds number xs → ((x : ℕ) → holds x → by + x < 2 ^ 64)
+    → Enumerates (λ y. (x : ℕ) × (y ≡ by + x) × holds x) number (map (λ x. by + x) xs)
+enumerates-moved {holds} {number} {xs} by l fit =
+    let moved : ℕ → ℕ = λ x. by + x in
+    let many = length-map xs moved in
+    record {
+      exactly = λ y. (
+        λ m. let r = Memᴰ·of-map moved xs m in (r .0, sym (r .2), l .exactly (r .0) .0 (r .1)),
+        λ h. Memᴰ·cast (h .1) (Memᴰ·map moved (l .exactly (h .0) .1 (h .2))),
+      );
+      ascending = λ i j h k.
+          omega (arith, mapped-at moved xs i (omega (arith, many)), mapped-at moved xs j (omega (arith, many)), l .ascending i j h (omega (arith, many)));
+      fits = λ y m. let r = Memᴰ·of-map moved xs m in omega (arith, r .2, fit (r .0) (l .exactly (r .0) .0 (r .1)));
+      counted = many ∙ l .counted;
     }
 
 -- a test as a number

@@ -50,12 +50,12 @@ pub record Greatest-common-divisor (a b g : ℕ) : Type 0 where
 
 -- ---- lists
 
--- a list has exactly the numbers of which something holds, each once and ascending; they fit 32 bits, and there are so many
+-- a list has exactly the numbers of which something holds, each once and ascending; they fit 64 bits, and there are so many
 pub record Enumerates (holds : (x : ℕ) → Type 0) (number : ℕ) (xs : List ℕ) : Type 0 where
   pub exactly : (x : ℕ) → List·Memᴰ x xs ↔ holds x
   -- strictly: of two places the later one holds the larger number
   pub ascending : (i j : ℕ) → i < j → j < length xs → getD xs i 0 < getD xs j 0
-  pub fits : (x : ℕ) → List·Memᴰ x xs → x < 2 ^ 32
+  pub fits : (x : ℕ) → List·Memᴰ x xs → x < 2 ^ 64
   pub counted : length xs ≡ number
 
 -- which of the numbers from x on have a property, as many as are left, and how many: where x has it, it is the first of them and counts for one

@@ -1,46 +1,27 @@
 -- In a list that ascends strictly the entries below a bound stand before the others: so the range has the entries between its bounds, and no other.
 -- Assumes nothing.
 use mathlib.Core.Path.{_≡_, refl, sym, _∙_, ap}
-use mathlib.Core.List.{List, [], _∷_, List·Memᴰ, Memᴰ·cast}
+use mathlib.Core.List.{List, List·Memᴰ, Memᴰ·cast}
 use mathlib.Core.Logic.{_↔_}
-use Prim.Native.Nat.{ℕ, zero, suc, _+_, _-_, _≤_, _<_}
-use native.Mathlib.Nat.{not-suc-le-zero, lt-of-not-le, le-of-suc-le-suc}
+use Prim.Native.Nat.{ℕ, _+_, _-_, _≤_, _<_}
+use native.Mathlib.Nat.{lt-of-not-le, le-of-suc-le-suc}
 use native.Mathlib.Omega.{arith}
 use lib.ListN.{length, getD, drop, length-drop}
 use lib.Seq.{getD-take, getD-drop, length-take-le}
 use Rattle.numbers.proofs.Lists.{Ascending, member-at, member-place}
 use Rattle.range.specs.Range.{below, start-of, count-of, range-of}
 use Rattle.range.specs.Promise.{Handed-back, Range-correct}
-use Rattle.range.proofs.Counting.{below-counted, below-passed, below-next}
+use Rattle.range.proofs.Counting.{few-below, many-below}
 use Rattle.range.proofs.Cases.{Between, within}
 
 -- ---- the entries below a bound come first
 
-rest-ascends : (x : ℕ) (xs : List ℕ) → Ascending (x ∷ xs) → Ascending xs
-rest-ascends x xs a i j h l = a (suc i) (suc j) (omega arith) (omega arith)
+module _ (b : ℕ) (xs : List ℕ) (a : Ascending xs) (i : ℕ) where
+  before-count : i < below b xs → getD xs i 0 < b
+  before-count l = lt-of-not-le (λ h. omega (arith, few-below b xs a i (λ k. h)))
 
-module _ (b : ℕ) where
-  -- there are no more of them than stand before an entry that is not below the bound
-  few-below : (xs : List ℕ) → Ascending xs → (i : ℕ) → (i < length xs → b ≤ getD xs i 0) → below b xs ≤ i
-  few-below [] a i h = unfold below in omega arith
-  few-below (x ∷ xs) a zero h =
-      let first : b ≤ x = h (omega arith) in
-      omega (arith, below-passed b x xs first, few-below xs (rest-ascends x xs a) 0 (λ l. omega (arith, a 0 1 (omega arith) (omega arith))))
-  few-below (x ∷ xs) a (suc i) h = omega (arith, below-next b x xs, few-below xs (rest-ascends x xs a) i (λ l. h (omega arith)))
-
-  -- and more than stand before one that is
-  many-below : (xs : List ℕ) → Ascending xs → (i : ℕ) → i < length xs → getD xs i 0 < b → i < below b xs
-  many-below [] a i l h = absurd (not-suc-le-zero l)
-  many-below (x ∷ xs) a zero l h = omega (arith, below-counted b x xs h)
-  many-below (x ∷ xs) a (suc i) l h =
-      omega (arith, below-counted b x xs (omega (arith, h, a 0 (suc i) (omega arith) l)), many-below xs (rest-ascends x xs a) i (omega arith) h)
-
-  module _ (xs : List ℕ) (a : Ascending xs) (i : ℕ) where
-    before-count : i < below b xs → getD xs i 0 < b
-    before-count l = lt-of-not-le (λ h. omega (arith, few-below xs a i (λ k. h)))
-
-    from-count : below b xs ≤ i → i < length xs → b ≤ getD xs i 0
-    from-count h l = le-of-suc-le-suc (lt-of-not-le (λ k. omega (arith, many-below xs a i l k)))
+  from-count : below b xs ≤ i → i < length xs → b ≤ getD xs i 0
+  from-count h l = le-of-suc-le-suc (lt-of-not-le (λ k. omega (arith, many-below b xs a i l k)))
 
 -- ---- what is handed back, place by place
 

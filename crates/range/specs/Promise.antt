@@ -27,8 +27,8 @@ pub record Handed-back (lo hi : ℕ) (xs : List ℕ) : Type 0 where
 -- a part of a list is the stretch of the range exactly where it holds the range and lies in that list where the range starts
 abbrev pub Stretches : Type 0
 Stretches =
-    (lo hi : ℕ) (whole part : RefT (List ℕ)) → Stretch 4 whole part (start-of lo hi (now whole)) (count-of lo hi (now whole))
-    ↔ ((now part ≡ range-of lo hi (now whole)) × (ptr part ≡ (ptr whole .0, start-of lo hi (now whole) * 4 + ptr whole .1)))
+    (lo hi : ℕ) (whole part : RefT (List ℕ)) → Stretch 8 whole part (start-of lo hi (now whole)) (count-of lo hi (now whole))
+    ↔ ((now part ≡ range-of lo hi (now whole)) × (ptr part ≡ (ptr whole .0, start-of lo hi (now whole) * 8 + ptr whole .1)))
 
 -- empty, at the list's start
 pub record Empty-at-start (lo hi : ℕ) (xs : List ℕ) : Type 0 where

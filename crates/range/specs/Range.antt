@@ -36,7 +36,7 @@ place-of lo hi xs = record { start = start-of lo hi xs; count = count-of lo hi x
 abbrev pub range-of : (lo hi : ℕ) → List ℕ → List ℕ
 range-of lo hi xs = take (count-of lo hi xs) (drop (start-of lo hi xs) xs)
 
--- `part` is the stretch of `whole` that starts at the place `from` and has `count` entries of `size` bytes (4 for a `u32`): it holds what
+-- `part` is the stretch of `whole` that starts at the place `from` and has `count` entries of `size` bytes (8 for a `u64`): it holds what
 -- stands there, and it lies there; a pointer is a block of memory and a number of bytes from its beginning
 pub record Stretch (size : ℕ) (whole part : RefT (List ℕ)) (from count : ℕ) : Type 0 where
   pub holds : now part ≡ take count (drop from (now whole))

@@ -1,5 +1,6 @@
 // The range of a strictly ascending list between two bounds, lo ≤ entry < hi, as a part of that same list (document 01: the cut-out).
 ghost use mathlib.Core.Path.{_≡_};
+ghost use mathlib.Core.Bool.{true};
 ghost use Rattle.range.specs.Range.{ascending, below, start-of, count-of, place-of, Stretch};
 
 // Where the range lies: its first place and how many entries it has.
@@ -10,8 +11,8 @@ pub struct Place {
 
 // The entries from lo on and below hi. Where there are none, the empty range just after the entries below lo. Of a list that does not
 // ascend strictly, or where lo is above hi, the empty range at the list's start.
-pub fn range(list: &[u32], lo: u32, hi: u32) -> &[u32]
-    ensures { λ r. ⌜ Stretch 4 (list .entry) r (start-of lo hi (now (list .entry))) (count-of lo hi (now (list .entry))) ⌝ }
+pub fn range(list: &[u64], lo: u64, hi: u64) -> &[u64]
+    ensures { λ r. ⌜ Stretch 8 (list .entry) r (start-of lo hi (now (list .entry))) (count-of lo hi (now (list .entry))) ⌝ }
 {
     let at = locate(list, lo, hi);
     let start = at.start;
@@ -20,7 +21,7 @@ pub fn range(list: &[u32], lo: u32, hi: u32) -> &[u32]
 }
 
 // Where in the list that range lies.
-pub fn locate(list: &[u32], lo: u32, hi: u32) -> Place
+pub fn locate(list: &[u64], lo: u64, hi: u64) -> Place
     ensures { λ r. ⌜ r ≡ place-of lo hi (now (list .entry)) ⌝ }
 {
     if hi < lo {
@@ -38,7 +39,7 @@ pub fn locate(list: &[u32], lo: u32, hi: u32) -> Place
 }
 
 // Whether each entry is less than the next one. It goes on after a pair that is not, so that several pairs are compared at once.
-fn is_ascending(list: &[u32]) -> bool
+fn is_ascending(list: &[u64]) -> bool
     ensures { λ r. ⌜ r ≡ ascending (now (list .entry)) ⌝ }
 {
     let mut so_far = true;
@@ -52,17 +53,20 @@ fn is_ascending(list: &[u32]) -> bool
     so_far
 }
 
-// How many entries are below the bound. It goes on after an entry that is not, so that several entries are compared at once.
-fn count_below(list: &[u32], bound: u32) -> usize
+// How many entries of a strictly ascending list are below the bound, by halving: as many as `low` at least, and as `high` at most.
+fn count_below(list: &[u64], bound: u64) -> usize
+    requires { ⌜ ascending (now list) ≡ true ⌝ }
     ensures { λ r. ⌜ r ≡ below bound (now (list .entry)) ⌝ }
 {
-    let mut n: usize = 0;
-    let mut i: usize = 0;
-    while i < list.len() {
-        if list[i] < bound {
-            n = n + 1;
+    let mut low: usize = 0;
+    let mut high = list.len();
+    while low < high {
+        let middle = low + (high - low) / 2;
+        if list[middle] < bound {
+            low = middle + 1;
+        } else {
+            high = middle;
         }
-        i = i + 1;
     }
-    n
+    low
 }

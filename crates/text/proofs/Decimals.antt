@@ -1,11 +1,12 @@
 -- The decimal digits of a number: the last one and the digits of the tenth of it; how they are written from the last one down; how many there are.
 -- Assumes nothing.
 use mathlib.Core.Path.{_≡_, sym, ap, _∙_}
+use mathlib.Core.Bool.{Bool, true, false}
 use mathlib.Core.List.{List, [], _∷_, _++_, append-assoc, append-nil}
 use mathlib.Core.Logic.{by-cases}
 use Prim.Native.Nat.{ℕ, zero, suc, _+_, _-_, _*_, _/_, _%_, _^_, _≤_, _<_}
 use native.Mathlib.Decide.{decLt}
-use native.Mathlib.Nat.{not-suc-le-zero, zero-lt-suc, pos-of-ne-zero, pow-suc, div-lt-iff-lt-mul}
+use native.Mathlib.Nat.{not-suc-le-zero, zero-lt-suc, pos-of-ne-zero, pow-suc, one-le-pow, div-lt-iff-lt-mul, le-div-iff-mul-le}
 use native.Mathlib.Omega.{arith}
 use lib.ListN.{length, set, take, drop, length-append, length-set, length-drop}
 use lib.Seq.{take-all, drop-length}
@@ -17,11 +18,13 @@ use Rattle.text.specs.Text.{digit, decimal-within, decimal}
 
 within-small : (f n : ℕ) → n < 10 → decimal-within (suc f) n ≡ digit n ∷ []
 unfolding decimal-within
-within-small f n h = rw (lt-ltb n 10 h)
+within-small f n h =
+    ap (λ (b : Bool). elim b [ true ↦ digit n ∷ [] | false ↦ decimal-within f (n / 10) ++ digit (n % 10) ∷ [] ]) (lt-ltb n 10 h)
 
 within-more : (f n : ℕ) → 10 ≤ n → decimal-within (suc f) n ≡ decimal-within f (n / 10) ++ digit (n % 10) ∷ []
 unfolding decimal-within
-within-more f n h = rw (le-ltb n 10 h)
+within-more f n h =
+    ap (λ (b : Bool). elim b [ true ↦ digit n ∷ [] | false ↦ decimal-within f (n / 10) ++ digit (n % 10) ∷ [] ]) (le-ltb n 10 h)
 
 -- fuel above the number is enough
 enough : (f g n : ℕ) → n < f → n < g → decimal-within f n ≡ decimal-within g n
@@ -111,3 +114,12 @@ few-digits zero n h = rw (one-digit n h) (omega arith)
 few-digits (suc k) n h =
     by-cases (decLt n 10) (λ l. rw (one-digit n l) (omega arith))
     (λ l. rw (more-digits n (omega arith), length-append) (omega (arith, few-digits k (n / 10) (tenth-below (suc k) n h))))
+
+-- and one that is not below it has more
+pub many-digits : (k n : ℕ) → 10 ^ k ≤ n → suc k ≤ length (decimal n)
+many-digits zero n h =
+    by-cases (decLt n 10) (λ l. rw (one-digit n l) (omega arith)) (λ l. rw (more-digits n (omega arith), length-append) (omega arith))
+many-digits (suc k) n h =
+    let some = one-le-pow k 10 (zero-lt-suc 9) in
+    rw (more-digits n (omega (arith, some, pow-suc 10 k)), length-append)
+    (omega (arith, many-digits k (n / 10) (le-div-iff-mul-le (zero-lt-suc 9) .1 (omega (arith, pow-suc 10 k)))))

@@ -10,7 +10,7 @@ use lib.ListN.{length, getD, length-append, List·getD-append}
 use lib.Seq.{getD-at}
 use Rattle.text.specs.Text.{digit, decimal}
 use Rattle.text.specs.Promise.{decimal-value, Digits, No-zero-in-front, Decimal-correct}
-use Rattle.text.proofs.Decimals.{one-digit, more-digits, by-tenths, byte-alone, byte-after, few-digits}
+use Rattle.text.proofs.Decimals.{one-digit, more-digits, by-tenths, byte-alone, byte-after, few-digits, many-digits}
 use Rattle.text.proofs.Numbers.{number-reads}
 
 -- ---- digits
@@ -81,5 +81,6 @@ decimal-correct n =
       unique = λ xs all front e. as-written xs all front ∙ ap decimal e;
       few = λ k h. few-digits k n h;
       at-most-20 = λ h. few-digits 19 n (omega (arith, h));
+      many = λ k h. many-digits k n h;
       read-back = λ at rest h. number-reads at n rest h;
     }

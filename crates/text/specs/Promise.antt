@@ -38,6 +38,8 @@ pub record Decimal-correct (n : ℕ) : Type 0 where
   pub few : (k : ℕ) → n < 10 ^ suc k → length (decimal n) ≤ suc k
   -- so that twenty places are enough
   pub at-most-20 : n < 2 ^ 64 → length (decimal n) ≤ 20
+  -- a number that is not below 10^k has more than k digits
+  pub many : (k : ℕ) → 10 ^ k ≤ n → suc k ≤ length (decimal n)
   -- the reader takes them back to n, with the line feed after them
   pub read-back : (at : ℕ) (rest : List ℕ) → n < 2 ^ 64
       → number-from at (decimal n ++ line-feed ∷ rest) ≡ found.Number n (suc (at + length (decimal n)))

@@ -1,5 +1,5 @@
 -- Texts: bytes, decimal numbers, and lines. Assumes nothing: these are definitions.
-use mathlib.Core.Bool.{cond}
+use mathlib.Core.Bool.{true, false}
 use mathlib.Core.List.{List, [], _∷_, _++_}
 use Prim.Native.Nat.{ℕ, zero, suc, _+_, _/_, _%_}
 use Prim.Native.Char.{code}
@@ -20,10 +20,11 @@ line-feed = 10
 abbrev pub digit : (d : ℕ) → ℕ
 digit d = 48 + d
 
--- the decimal digits of n, the first of them not 0 but for 0 itself; of more digits than there is fuel, the last ones
+-- the decimal digits of n, the first of them not 0 but for 0 itself; of more digits than there is fuel, the last ones. The two
+-- branches of `elim` are not computed before the test is, so that a large number does not use up its fuel
 unfoldable pub decimal-within : (fuel n : ℕ) → List ℕ
 decimal-within zero n = []
-decimal-within (suc f) n = cond (ltb n 10) (digit n ∷ []) (decimal-within f (n / 10) ++ digit (n % 10) ∷ [])
+decimal-within (suc f) n = elim (ltb n 10) [ true ↦ digit n ∷ [] | false ↦ decimal-within f (n / 10) ++ digit (n % 10) ∷ [] ]
 
 -- a number in decimal: it has no more than n + 1 digits
 unfoldable pub decimal : (n : ℕ) → List ℕ

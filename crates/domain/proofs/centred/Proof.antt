@@ -16,7 +16,7 @@ returns c =
     let at-sum = c .before .before .before in
     let s = at-sum .before .before in
     let d = s .args .domain in
-    let fits : SFits w64 (d .curve) = record { sfits = c .struct-told .given .1 .1 .1 .0 .1 } in
+    let fits : SFits w64 (d .curve) = record { sfits = c .struct-told .given .1 .1 .1 .1 .0 .1 } in
     let w : suc (c .before .min .result) ≡ min (d .modulus) (2 * d .window - 1) = omega (arith, c .before .min .ensures, s .pre .window-low, s .pre .window-high) in
     rw (toZ-ofZ fits, at-sum .add .ensures, w)
 

@@ -32,14 +32,14 @@ room c =
 too-many : tie.Need-returns
 too-many c =
     let at-report = c .before .before in
-    parts-refused _ _ _ _ _ (omega (arith, c .if1 .taken, at-report .before .min .ensures, total-is at-report))
+    parts-refused _ _ _ _ _ _ (omega (arith, c .if1 .taken, at-report .before .min .ensures, total-is at-report))
 
 list-parts-requires : tie.Need-list-parts-requires
 list-parts-requires c κs =
     let at-else = c .before .before .before .before in
     let at-report = at-else .before .before in
     let s = at-report .before .before .before .before in
-    (s .pre .0, (s .pre .1 .1, (counts-are at-report, room at-else)))
+    (s .pre .0, (s .pre .1 .1 .0, (s .pre .1 .1 .1, (counts-are at-report, room at-else))))
 
 searched : tie.Need-returns-2
 searched c =
@@ -47,7 +47,7 @@ searched c =
     let at-else = at-listed .before .before .before .before .before in
     let at-report = at-else .before .before in
     let s = at-report .before .before .before .before in
-    parts-searched _ _ _ _ _ (s .pre .1 .0) (room at-else) (at-report .examine-parts .ensures) (at-listed .list-parts .ensures)
+    parts-searched _ _ _ _ _ _ (s .pre .1 .0) (room at-else) (at-report .examine-parts .ensures) (at-listed .list-parts .ensures)
 
 pub search-parts-spec : {M : Type 1} → statement M
 search-parts-spec =

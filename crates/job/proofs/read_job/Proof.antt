@@ -1,39 +1,22 @@
--- `job::read_job` meets its contract: what was found of each field decides what is read. Assumes nothing.
+-- `job::read_job` meets its contract: whether the line of an origin was found decides where the other lines begin. Assumes nothing.
 use borrow.Author.Needs.{needs}
 use Rattle.job.specs.Reading.{reading}
 use Rattle.job.proofs.read_job.Statement.{statement}
 use Rattle.job.proofs.read_job.Tie as tie
 
-no-modulus : tie.Need-returns
+with-origin : tie.Need-returns
 unfolding reading
-no-modulus c = rw (← c .before .before .field .ensures, c .enum-told .given .1)
+with-origin c =
+    let at-origin = c .before .before in
+    rw (← at-origin .before .before .field .ensures, at-origin .origin .given .1) (c .read-lines .ensures)
 
-no-value : tie.Need-returns-2
+without-origin : tie.Need-returns-2
 unfolding reading
-no-value c =
-    let at-modulus = c .before .before .before .before .before in
-    rw (← at-modulus .before .before .field .ensures, at-modulus .modulus .given .1, ← c .before .before .field2 .ensures, c .enum-told2 .given .1)
-
-no-slope : tie.Need-returns-3
-unfolding reading
-no-slope c =
-    let at-value = c .before .before .before .before .before in
-    let at-modulus = at-value .before .before .before .before .before in
-    rw (← at-modulus .before .before .field .ensures, at-modulus .modulus .given .1, ← at-value .before .before .field2 .ensures, at-value .value .given .1)
-    (rw (← c .before .before .field3 .ensures, c .enum-told3 .given .1))
-
-read : tie.Need-returns-4
-unfolding reading
-read c =
-    let at-slope = c .before .before in
-    let at-value = at-slope .before .before .before .before .before in
-    let at-modulus = at-value .before .before .before .before .before in
-    rw (← at-modulus .before .before .field .ensures, at-modulus .modulus .given .1, ← at-value .before .before .field2 .ensures, at-value .value .given .1)
-    (rw (← at-slope .before .before .field3 .ensures, at-slope .slope .given .1) (c .read-rest .ensures))
+without-origin c =
+    let at-none = c .before in
+    rw (← at-none .before .before .field .ensures, at-none .enum-told .given .1) (c .read-lines2 .ensures)
 
 pub read-job-spec : {M : Type 1} → statement M
 read-job-spec =
     tie.close
-    (tie.spec (λ c. search needs) (λ c κs. tt) (λ c. search needs) (λ c. search needs) no-modulus (λ c. search needs) (λ c κs. tt)
-    (λ c. search needs) (λ c. search needs) no-value (λ c. search needs) (λ c κs. tt) (λ c. search needs) (λ c. search needs) no-slope (λ c κs. tt)
-    read)
+    (tie.spec (λ c. search needs) (λ c κs. tt) (λ c. search needs) (λ c κs. tt) (λ c. search needs) (λ c κs. tt) with-origin without-origin)

@@ -25,5 +25,6 @@ not-ascending c = at-start (unordered _ _ _ (sym (c .before .is-ascending .ensur
 pub locate-spec : {M : Type 1} → statement M
 locate-spec =
     tie.close
-    (tie.spec bounds-crossed (λ c κs. search needs) (λ c κs. search needs) (λ c κs. search needs)
+    (tie.spec bounds-crossed (λ c κs. search needs) (λ c κs. sym (c .before .is-ascending .ensures) ∙ c .if2 .taken)
+    (λ c κs. sym (c .before .before .is-ascending .ensures) ∙ c .before .if2 .taken)
     (λ c. omega (arith, between c .forward, c .before .count-below .ensures, c .count-below2 .ensures)) located not-ascending)

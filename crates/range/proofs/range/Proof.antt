@@ -1,5 +1,5 @@
 -- `range::range` meets its contract: the part of the list that lies where `locate` says. Assumes nothing.
-use mathlib.Core.Path.{_≡_}
+use mathlib.Core.Path.{_≡_, refl}
 use Prim.Native.Nat.{_+_, _-_, _≤_}
 use native.Mathlib.Omega.{arith}
 use borrow.Author.Needs.{needs}
@@ -19,7 +19,7 @@ part c =
     let r = at-locate .locate .result in
     let e = at-locate .locate .ensures in
     let n : r .start + r .count - r .start ≡ r .count = omega arith in
-    record { holds = rw (n, e); place = rw e }
+    record { holds = rw (n, e); place = rw e refl }
 
 pub range-spec : {M : Type 1} → statement M
 range-spec =

@@ -17,12 +17,12 @@ abbrev μ-loop : tie.MeasureT-loop
 
 -- where the call began
 abbrev started : tie.At-loop Inv-loop μ-loop → tie.Start Inv-loop μ-loop
-started c = c .before .before .before .before .before .before
+started c = c .before .before .before .before .before
 
 loop-holds : tie.Need-loop-holds Inv-loop μ-loop
 loop-holds c =
-    let s = c .before .before .before .before .before in
-    all-first _ _ (at-first (s .pre .0) (c .before .remainder .ensures) refl) (s .pre .1 .0)
+    let s = c .before .before .before .before in
+    all-first _ _ (at-first (s .pre .0) (c .remainder .ensures) refl) (s .pre .1 .0)
 
 slice-write-list : tie.Need-slice-write-list Inv-loop μ-loop
 slice-write-list c =
@@ -43,10 +43,8 @@ returns c = all-done (c .before .loop .inv) (c .loop-test .left)
 pub list-all-spec : {M : Type 1} → statement M
 list-all-spec =
     tie.close
-    (tie.spec Inv-loop μ-loop (λ c κs. tt) (λ c. record { fits = omega (arith, c .before .before .before .before .before .pre .0 .count-high) }) loop-holds
-    (λ c. record { fits = omega (arith, c .loop-test .taken, started (c .before) .pre .0 .count-high) })
+    (tie.spec Inv-loop μ-loop (λ c κs. tt) loop-holds
     (λ c. omega (arith, c .loop-test .taken, started (c .before) .pre .0 .count-high)) slice-write-list
-    (λ c. record { fits = omega (arith, c .loop-test .taken, started (c .before) .pre .0 .count-high) })
     (λ c. omega (arith, c .loop-test .taken, started (c .before) .pre .0 .count-high)) slice-write-values
     (λ c κs. at-below (c .before .loop .inv .listing .point))
     (λ c. record { fits = omega (arith, c .before .loop-test .taken, started (c .before .before) .pre .0 .count-high) })

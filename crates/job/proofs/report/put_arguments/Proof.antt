@@ -5,7 +5,6 @@ use mathlib.Core.Path.{ap₂}
 use Prim.Native.Nat.{_-_, _≤_}
 use native.Mathlib.Omega.{arith}
 use borrow.Author.Needs.{needs}
-use mir.Facts.{fits-32-64}
 use lib.ListN.{length, drop, drop-of-length-le}
 use Rattle.numbers.proofs.Buffers.{Clipped, clip-restate, clip-begin, clip-done, clip-length}
 use Rattle.job.specs.Output.{argument-lines}
@@ -19,9 +18,6 @@ Inv-loop arguments values out₀ at _ _ _ _ out i end =
 
 abbrev μ-loop : tie.MeasureT-loop
 μ-loop arguments _ _ _ _ _ _ _ _ i _ = length arguments - i
-
-argument-fits : tie.Need-cast-put-number Inv-loop μ-loop
-argument-fits c = fits-32-64 (c .shared-slice-known3 .given _)
 
 -- there is a value beside the argument
 value-there : tie.Need-shared-slice-read-put-line Inv-loop μ-loop
@@ -50,7 +46,7 @@ written c =
 pub put-arguments-spec : {M : Type 1} → statement M
 put-arguments-spec =
     tie.close
-    (tie.spec Inv-loop μ-loop (λ c. clip-begin _ _ _) (λ c. search needs) (λ c κs. tt) (λ c. search needs) (λ c. search needs) argument-fits (λ c κs. tt)
+    (tie.spec Inv-loop μ-loop (λ c. clip-begin _ _ _) (λ c. search needs) (λ c κs. tt) (λ c. search needs) (λ c. search needs) (λ c κs. tt)
     (λ c. search needs) (λ c. search needs) value-there (λ c κs. tt) (λ c. search needs)
     (λ c. omega (arith, c .before .before .before .before .before .before .before .before .before .before .before .before .before .before .before .before .loop-test .taken))
     loop-again (λ c. clip-length (c .before .loop .inv)) written)
