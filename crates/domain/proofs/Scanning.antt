@@ -1,7 +1,7 @@
 -- Scans go from a value of a parabola to the next: what they have counted or listed, and what is still to come, make up all hard arguments and the values beside
 -- them.
 -- Assumes nothing.
-use mathlib.Core.Path.{_≡_, refl, sym, _∙_, ap, ap₂}
+use mathlib.Core.Path.{_≡_, sym, _∙_, ap, ap₂}
 use mathlib.Core.Bool.{true, false}
 use mathlib.Core.List.{List, map}
 use Prim.Native.Nat.{ℕ, suc, _+_, _-_, _%_, _≤_, _<_}
@@ -12,7 +12,7 @@ use lib.Dec.{leb, ltb, leb·suc-suc}
 use lib.ListN.{length, set, length-map}
 use lib.Seq.{sets}
 use mir.Val.{boolByte}
-use borrow.Author.Tests.{leb-true, le-leb, lt-leb}
+use borrow.Author.Tests.{le-leb, lt-leb}
 use Rattle.numbers.specs.Integers.{_modulo_}
 use Rattle.numbers.proofs.Lists.{no-entries}
 use Rattle.numbers.proofs.Remainders.{difference-within}
@@ -210,32 +210,36 @@ module _ {p : Parabola} {second highest raise begin place : ℕ} {old old-values
 
 -- ---- listing all
 
--- the same with the argument x to be written at the place x, where it and all after it are hard
-pub record Listing-all (p : Parabola) (second highest : ℕ) (old old-values list values : List ℕ) (t : Point) (x : ℕ) : Type 0 where
-  pub listing : Listing p second highest 0 0 0 old old-values list values t x x
+-- a column of f of every argument, each at its own place, where those from x on are all hard and still to be written
+pub record Full-column (f : ℕ → ℕ) (p : Parabola) (old : List ℕ) (now : List ℕ) (x : ℕ) : Type 0 where
+  pub column : Column f p 0 old x now x
   pub all-left : length (rest p x) ≡ p .count - x
 
-pub all-first : {p : Parabola} {second highest : ℕ} (old old-values : List ℕ) {t : Point} → At p second highest 0 t → length (hard-list p) ≡ p .count
-    → Listing-all p second highest old old-values old old-values t 0
-all-first {p} old old-values a e = record { listing = list-first a; all-left = ap length (rest-all p) ∙ e ∙ sym (sub-zero (p .count)) }
+module _ {f : ℕ → ℕ} {p : Parabola} {old : List ℕ} where
+  pub full-first : length (hard-list p) ≡ p .count → Full-column f p old old 0
+  full-first e = record { column = column-first; all-left = ap length (rest-all p) ∙ e ∙ sym (sub-zero (p .count)) }
 
-module _ {p : Parabola} {second highest : ℕ} {old old-values list values : List ℕ} {t : Point} {x : ℕ} (l : Listing-all p second highest old old-values list values t x) where
-  argument-is : l .listing .argument ≡ x
-  argument-is = omega (arith, l .listing .begun)
+  module _ {now : List ℕ} {x : ℕ} (c : Full-column f p old now x) where
+    pub full-next : x < p .count → {v : ℕ} → v ≡ f x → Full-column f p old (set now x v) (x + 1)
+    full-next h e =
+        let full = from-full (is-hard p) (p .count) x h (c .all-left) in
+        rw (e, add-one x) (record { column = rw (add-one x) at (column-hit (c .column) h (full .0)); all-left = full .1 })
 
-  -- so many are still to be written
-  still : x + (p .count - x) ≡ 0 + length (hard-list p)
-  still = omega (arith, column-end (l .listing .arguments-column), ap (λ (n : ℕ). length (rest p n)) argument-is, l .all-left)
+    pub full-done : p .count ≤ x → now ≡ sets old 0 (map f (hard-list p))
+    full-done h = column-done (c .column) (omega (arith, c .all-left))
 
-  pub all-next : x < p .count → Listing-all p second highest old old-values (set list x x) (set values x (t .value)) (next-point second (p .unit) t) (x + 1)
-  all-next h =
-      let i = l .listing in
-      let full = from-full (is-hard p) (p .count) x h (l .all-left) in
-      let hard = leb-true (t .value) highest (at-test (i .point) ∙ ap (is-hard p) argument-is ∙ full .0) in
-      let below = at-below (i .point) .value-below in
-      let not-raised = sym (sub-zero (t .value)) ∙ difference-within (p .unit) (t .value) 0 below (omega arith) in
-      record { listing = list-hit i _ refl (omega (arith, still)) hard not-raised; all-left = rw (add-one x) (full .1) }
+-- of the values, with the point at x
+pub record Full-values (p : Parabola) (second highest : ℕ) (old now : List ℕ) (t : Point) (x : ℕ) : Type 0 where
+  pub values-column : Full-column (lowered-at 0 p) p old now x
+  pub point : At p second highest x t
 
-  pub all-done : p .count ≤ x
-      → (list ≡ sets old 0 (map (λ (y : ℕ). 0 + y) (hard-list p))) × (values ≡ sets old-values 0 (lowered-values 0 p))
-  all-done h = list-done (l .listing) _ refl (omega (arith, still, argument-is, l .listing .within))
+pub full-values-next : {p : Parabola} {second highest : ℕ} {old now : List ℕ} {t : Point} {x : ℕ} → Full-values p second highest old now t x → x < p .count
+    → Full-values p second highest old (set now x (t .value)) (next-point second (p .unit) t) (x + 1)
+unfolding lowered
+full-values-next {p} {t = t} {x = x} l h =
+    let below = at-below (l .point) .value-below in
+    let not-raised = sym (sub-zero (t .value)) ∙ difference-within (p .unit) (t .value) 0 below (omega arith) in
+    record {
+      values-column = full-next (l .values-column) h (not-raised ∙ ap (λ (v : ℕ). (v + (p .unit - 0)) % p .unit) (l .point .value-is));
+      point = rw (add-one x) (at-next (l .point));
+    }

@@ -130,7 +130,8 @@ pub(crate) fn list_hard(
     }
 }
 
-// The same for an arc that is not raised, whose arguments are all hard, from the first place on. There is nothing to test.
+// The same for an arc that is not raised, whose arguments are all hard, from the first place on. There is nothing to test. Each column has its own
+// loop: the arguments need no values, so the compiler writes several at once.
 pub(crate) fn list_all(arc: Arc, list: &mut [u64], values: &mut [u64])
     requires { ⌜ In-range (parabola arc) ⌝ }
     requires { ⌜ length (hard-list (parabola arc)) ≡ arc .count ⌝ }
@@ -139,15 +140,19 @@ pub(crate) fn list_all(arc: Arc, list: &mut [u64], values: &mut [u64])
     ensures { λ _. ⌜ now (list .exit) ≡ sets (now (list .entry)) 0 (listed-from 0 (parabola arc)) ⌝ }
     ensures { λ _. ⌜ now (values .exit) ≡ sets (now (values .entry)) 0 (lowered-values 0 (parabola arc)) ⌝ }
 {
+    let end = arc.count;
+    let mut x: u64 = 0;
+    while x < end {
+        list[x as usize] = x;
+        x = x + 1;
+    }
     let second = remainder(arc.curve, arc.modulus);
     let mut point = Point {
         value: arc.value,
         slope: arc.slope,
     };
-    let end = arc.count;
-    let mut x: u64 = 0;
+    x = 0;
     while x < end {
-        list[x as usize] = x;
         values[x as usize] = point.value;
         point = next(point, second, arc.modulus);
         x = x + 1;
