@@ -8,6 +8,7 @@
 #[path = "../tests/c_api.rs"]
 mod c_api;
 mod common;
+#[allow(dead_code)]
 mod same;
 #[allow(dead_code)]
 mod tuned;
@@ -126,7 +127,8 @@ fn compare_and_add(a: u64, b: u64, modulus: u64) -> u64 {
     }
 }
 
-/// The search of a domain as documents 01 and 02 have it, plainly and unverified.
+/// The search of a domain as documents 01 and 02 have it, plainly and unverified. Phase 1 looks for the distance alone, as the proved code
+/// does.
 #[inline(never)]
 fn search(domain: &Domain, list: &mut [u64], values: &mut [u64], marks: &mut Marks, searched: &mut Searched) -> u32 {
     let Domain { origin, modulus, value, slope, curve, count, window } = *domain;
@@ -140,9 +142,8 @@ fn search(domain: &Domain, list: &mut [u64], values: &mut [u64], marks: &mut Mar
     if origin > ORIGIN {
         return 11;
     }
-    let (covering, mut shown) = (domain.covering(), [0; 5]);
-    same::regular(modulus, covering.step, covering.start, count, covering.window, &mut shown);
-    if shown[4] == 1 {
+    let covering = domain.covering();
+    if covering.window <= same::regular_distance(modulus, covering.step, covering.start, count) {
         *marks = [0; 8];
         *searched = [1, 0];
         return 0;

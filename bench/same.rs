@@ -1,6 +1,9 @@
 //! The proved searches written in Rust and unverified: what the same algorithm takes without its proofs. The functions are those of
 //! crates/segment/src, under older names and in an older shape. Written in the present one, the Rust compiler makes them some 5% slower, so
-//! this is the stricter comparison.
+//! this is the stricter comparison. The search for the distance alone has the present shape, but for the
+//! index and the budget, and a hint that no branch is meant.
+
+use std::hint::select_unpredictable;
 
 #[derive(Clone, Copy)]
 struct State {
@@ -209,6 +212,62 @@ pub fn regular(modulus: u64, step: u64, start: u64, count: u64, window: u64, sho
         *shown = [s.longs + s.shorts, s.index as u64, s.distance, s.argument, (s.distance >= window) as u64];
     }
     refusal
+}
+
+/// A state without its argument: `wide` tells at an odd row whether the start lies in a long gap.
+#[derive(Clone, Copy)]
+struct Sketch {
+    long: u64,
+    short: u64,
+    longs: u64,
+    shorts: u64,
+    distance: u64,
+    wide: bool,
+    done: bool,
+}
+
+#[inline(always)]
+fn sketch_row(sketch: Sketch, count: u64) -> Sketch {
+    let rest = sketch.long % sketch.short;
+    let longs = sketch.shorts + sketch.long / sketch.short * sketch.longs;
+    Sketch {
+        long: sketch.short,
+        short: rest,
+        longs,
+        shorts: sketch.longs,
+        done: (rest == 0) | (count - sketch.longs <= longs),
+        ..sketch
+    }
+}
+
+#[inline(always)]
+fn sketch_even(sketch: Sketch, count: u64) -> Sketch {
+    let cuts = sketch.long / sketch.short;
+    let (moves, distance) = (sketch.distance / sketch.short, sketch.distance % sketch.short);
+    Sketch { distance, wide: moves != cuts, ..sketch_row(sketch, count) }
+}
+
+#[inline(always)]
+fn sketch_odd(sketch: Sketch, count: u64) -> Sketch {
+    let next = sketch_row(sketch, count);
+    let over = if sketch.distance < next.short { sketch.distance } else { sketch.distance - next.short };
+    Sketch { distance: select_unpredictable(sketch.wide, over % sketch.short, sketch.distance), ..next }
+}
+
+/// The distance of the regular search alone, as crates/segment/src/sketch.rt finds it.
+#[inline(always)]
+pub fn regular_distance(modulus: u64, step: u64, start: u64, count: u64) -> u64 {
+    let (long, short, distance) = (modulus, step, start);
+    let mut sketch =
+        Sketch { long, short, longs: 1, shorts: 0, distance, wide: true, done: step == 0 || count <= 1 };
+    while !sketch.done {
+        sketch = sketch_even(sketch, count);
+        if sketch.done {
+            break;
+        }
+        sketch = sketch_odd(sketch, count);
+    }
+    sketch.distance
 }
 
 #[inline(never)]

@@ -6,6 +6,7 @@
 #[path = "../tests/c_api.rs"]
 mod c_api;
 mod common;
+#[allow(dead_code)]
 mod same;
 mod tuned;
 

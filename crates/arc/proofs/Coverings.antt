@@ -11,15 +11,13 @@ use Rattle.expansion.specs.Reached.{Search}
 use Rattle.expansion.specs.Reached.Search.{regular, fine}
 use Rattle.segment.specs.Accepted.{Accepted}
 use Rattle.segment.specs.Search.{verdict}
-use Rattle.segment.specs.Answer.{regular-answer, regular-shown, fine-answer, fine-shown}
+use Rattle.segment.specs.Answer.{fine-answer, fine-shown}
+use Rattle.segment.specs.Answer.{regular-verdict as segment-verdict}
 use Rattle.segment.specs.declared.Verdict.the-variants.{Clear, Possible}
-use Rattle.segment.specs.declared.Regular.{Regular}
 use Rattle.segment.specs.declared.Fine.{Fine}
-use Rattle.segment.specs.declared.RegularAnswer.{RegularAnswer}
-use Rattle.segment.specs.declared.RegularAnswer.the-variants as regular-variants
 use Rattle.segment.specs.declared.FineAnswer.{FineAnswer}
 use Rattle.segment.specs.declared.FineAnswer.the-variants as fine-variants
-use Rattle.segment.proofs.Laws.{regular-shows, fine-shows}
+use Rattle.segment.proofs.Laws.{fine-shows, verdict-shows}
 use Rattle.segment.proofs.Promises as segment
 use Rattle.parabola.specs.Parabola.{Parabola, In-range, value-at, spread, covering-step, start-over, covering-start, covering-window, covering}
 use Rattle.parabola.proofs.Laws.{positive}
@@ -48,21 +46,13 @@ module _ {p : Parabola} (range : In-range p) where
 -- ---- what the searches answer
 
 module _ {p : Parabola} (range : In-range p) {c : Covering} (e : c ≡ covering-numbers p) where
-  regular-answered : regular-answer (p .unit) (c .step) (c .start) (p .count) (c .window) ≡ regular-variants.Shown (regular-shown (covering p))
+  pub regular-verdict : segment-verdict (p .unit) (c .step) (c .start) (p .count) (c .window) ≡ verdict regular (covering p)
   unfolding covering-numbers
-  regular-answered = rw e (regular-shows _ _ _ _ _ (covering-accepted range))
+  regular-verdict = rw e (verdict-shows _ _ _ _ _ (covering-accepted range))
 
   fine-answered : fine-answer (p .unit) (c .step) (c .start) (p .count) (c .window) ≡ fine-variants.Shown (fine-shown (covering p))
   unfolding covering-numbers
   fine-answered = rw e (fine-shows _ _ _ _ _ (covering-accepted range))
-
-  module _ {r : RegularAnswer} (f : r ≡ regular-answer (p .unit) (c .step) (c .start) (p .count) (c .window)) where
-    pub regular-unrefused : {n : ℕ} → r ≡ regular-variants.Refused n → ⊥
-    regular-unrefused g = let h = sym g ∙ f ∙ regular-answered in let z : _≡_ {A = ℕ} 0 1 = cc in omega arith
-
-    pub regular-verdict : {s : Regular} → r ≡ regular-variants.Shown s → s .verdict ≡ verdict regular (covering p)
-    unfolding regular-shown
-    regular-verdict g = let h = sym g ∙ f ∙ regular-answered in cc
 
   module _ {r : FineAnswer} (f : r ≡ fine-answer (p .unit) (c .step) (c .start) (p .count) (c .window)) where
     pub fine-unrefused : {n : ℕ} → r ≡ fine-variants.Refused n → ⊥

@@ -90,16 +90,13 @@ pub fn regular_verdict(arc: Arc) -> segment::Verdict
         return segment::Verdict::Possible;
     }
     let covering = cover(arc);
-    match segment::regular_search(
+    segment::regular_verdict(
         arc.modulus,
         covering.step,
         covering.start,
         arc.count,
         covering.window,
-    ) {
-        segment::RegularAnswer::Refused(_) => segment::Verdict::Possible,
-        segment::RegularAnswer::Shown(shown) => shown.verdict,
-    }
+    )
 }
 
 // The same by the fine search.

@@ -8,11 +8,12 @@ use Rattle.expansion.specs.Reached.{Search}
 use Rattle.expansion.specs.Reached.Search.{regular, fine}
 use Rattle.geometry.specs.Segment.{Segment, residue}
 use Rattle.segment.specs.Accepted.{asked, checks, refusal, Accepted}
-use Rattle.segment.specs.Search.{argument, distance, verdict-at}
-use Rattle.segment.specs.Answer.{regular-shown, fine-shown, regular-answer-with, fine-answer-with, regular-answer, fine-answer}
+use Rattle.segment.specs.Search.{argument, distance, verdict-at, verdict}
+use Rattle.segment.specs.Answer.{regular-shown, fine-shown, regular-answer-with, fine-answer-with, regular-answer, fine-answer, regular-verdict-with, regular-verdict}
 use Rattle.segment.specs.State.{points, state-after}
 use Rattle.segment.specs.Promise.{Refused-for}
 use Rattle.segment.specs.declared.state.State.{State}
+use Rattle.segment.specs.declared.Verdict.the-variants.{Possible}
 use Rattle.segment.specs.declared.RegularAnswer.the-variants as regular-variants
 use Rattle.segment.specs.declared.FineAnswer.the-variants as fine-variants
 use Rattle.segment.proofs.Minimum.{least-is}
@@ -42,11 +43,20 @@ module _ (M a b N w : ℕ) where
   fine-refused zero e h = absurd (h refl)
   fine-refused (suc n) e h = rw (← e)
 
+  pub verdict-refused : (n : ℕ) → n ≡ refusal (asked M a b N w) → (n ≡ 0 → ⊥) → Possible ≡ regular-verdict M a b N w
+  unfolding regular-verdict regular-verdict-with
+  verdict-refused zero e h = absurd (h refl)
+  verdict-refused (suc n) e h = rw (← e)
+
 -- and an accepted segment is answered with what its search shows
 module _ (M a b N w : ℕ) (c : Accepted (asked M a b N w)) where
   pub regular-shows : regular-answer M a b N w ≡ regular-variants.Shown (regular-shown (asked M a b N w))
   unfolding regular-answer regular-answer-with
   regular-shows = rw (accepted (asked M a b N w) .1 c)
+
+  pub verdict-shows : regular-verdict M a b N w ≡ verdict regular (asked M a b N w)
+  unfolding regular-verdict regular-verdict-with
+  verdict-shows = rw (accepted (asked M a b N w) .1 c)
 
   pub fine-shows : fine-answer M a b N w ≡ fine-variants.Shown (fine-shown (asked M a b N w))
   unfolding fine-answer fine-answer-with
@@ -98,3 +108,8 @@ module _ (M a b N w : ℕ) {t : State} (c : Accepted (asked M a b N w)) where
       }) ≡ fine-answer M a b N w
   unfolding fine-shown
   fine-answered e = let end = ended-with fine M a b N w c e in rw (fine-shows M a b N w c, end .label, argument-is end, distance-is end)
+
+-- the verdict by the distance alone
+pub verdict-answered : (M a b N w : ℕ) {d : ℕ} → Accepted (asked M a b N w) → d ≡ state-after regular (asked M a b N 1) 29 .distance
+    → verdict-at d w ≡ regular-verdict M a b N w
+verdict-answered M a b N w c e = rw (verdict-shows M a b N w c, e, distance-is (ended-with regular M a b N w c refl))

@@ -12,7 +12,7 @@ use Rattle.geometry.specs.Segment.{Segment, residue}
 use Rattle.geometry.proofs.Promises as geometry
 use Rattle.segment.specs.Accepted.{asked, checks, refusal, Accepted}
 use Rattle.segment.specs.Search.{reached-in, argument, distance, verdict}
-use Rattle.segment.specs.Answer.{regular-shown, fine-shown, regular-answer-with, fine-answer-with, regular-answer, fine-answer}
+use Rattle.segment.specs.Answer.{regular-shown, fine-shown, regular-answer-with, fine-answer-with, regular-answer, fine-answer, regular-verdict-with, regular-verdict}
 use Rattle.segment.specs.State.{next}
 use Rattle.segment.specs.Promise.{Refused-for, Regular-answer-correct, Fine-answer-correct, Regular-clears, Fine-clears, Cleared, Smaller-cleared, Fine-reaches-no-more, Verdicts-correct, Without-window, Promised}
 use Rattle.segment.specs.declared.Verdict.{Verdict}
@@ -21,7 +21,7 @@ use Rattle.segment.specs.declared.RegularAnswer.the-variants as regular-
 use Rattle.segment.specs.declared.FineAnswer.the-variants as fine-variants
 use Rattle.segment.proofs.Answers.{accepted, refused-for, regular-refused, fine-refused}
 use Rattle.segment.proofs.Stepping.{steps-correct}
-use Rattle.segment.proofs.Showing.{argument-below, distance-least, cleared-none, verdict-iff, shown-correct}
+use Rattle.segment.proofs.Showing.{apart, argument-below, distance-least, cleared-none, verdict-iff, shown-correct}
 
 -- what the expansion promises of the searches of an accepted segment
 searches : {s : Segment} → Accepted s → Searches-correct (s .unit) (s .step)
@@ -120,6 +120,13 @@ no-more M a b N w r f er ef =
     absurd (omega arith))
     (decide (asked M a b N w))
 
+verdict-alone : (M a b N w : ℕ) → (regular-verdict M a b N w ≡ Clear) ↔ Cleared regular M a b N w
+unfolding regular-verdict regular-verdict-with
+verdict-alone M a b N w =
+    ⊎-elim (λ c. rw (c .0) (cleared-iff regular M a b N w (c .1)))
+    (λ r. (λ e. absurd (apart (sym (rw (r .1) at e))), λ h. let c = accepted (asked M a b N w) .1 (cleared-accepted regular M a b N w h) in absurd (omega (arith, c, r .1))))
+    (decide (asked M a b N w))
+
 verdicts : (k : Search) (M a b N w : ℕ) → Accepted (asked M a b N w) → Verdicts-correct k M a b N w
 verdicts k M a b N w c =
     record {
@@ -162,6 +169,8 @@ promised =
       smaller = smaller;
       no-more = no-more;
       verdicts = verdicts;
+      cleared-accepted = cleared-accepted;
+      verdict-alone = verdict-alone;
       without-window = without-window;
       two-verdicts = two-verdicts;
     }

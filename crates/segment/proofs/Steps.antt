@@ -27,10 +27,10 @@ abbrev after-row : Search → (n : ℕ) → State → Configuration
 after-row k n t = reached-from k n (suc (t .index)) (t .short) (t .long % t .short) (t .longs) (t .shorts + t .long / t .short * t .longs)
 
 module _ {k : Search} {s : Segment} {odd : Bool} {t : State} (r : Running k s odd t) where
-  positive : 0 < t .short
+  pub positive : 0 < t .short
   positive = short-positive (r .holds .lengths)
 
-  falls : t .short ≤ t .long
+  pub falls : t .short ≤ t .long
   falls = le-of-lt (r .falls)
 
   -- all cuts leave something

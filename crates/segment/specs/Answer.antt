@@ -1,9 +1,11 @@
--- What the two calls answer. Assumes nothing: these are definitions.
+-- What the two searches answer, and the verdict of the regular one alone. Assumes nothing: these are definitions.
 use Prim.Native.Nat.{ℕ, zero, suc}
 use Rattle.expansion.specs.Reached.Search.{regular, fine}
 use Rattle.geometry.specs.Segment.{Segment}
 use Rattle.segment.specs.Accepted.{asked, refusal}
 use Rattle.segment.specs.Search.{reached-in, argument, distance, verdict}
+use Rattle.segment.specs.declared.Verdict.{Verdict}
+use Rattle.segment.specs.declared.Verdict.the-variants.{Possible}
 use Rattle.segment.specs.declared.Regular.{Regular}
 use Rattle.segment.specs.declared.Fine.{Fine}
 use Rattle.segment.specs.declared.RegularAnswer.{RegularAnswer}
@@ -50,6 +52,14 @@ regular-answer M a b N w = regular-answer-with (refusal (asked M a b N w)) (aske
 -- the fine search's
 unfoldable pub fine-answer : (M a b N w : ℕ) → FineAnswer
 fine-answer M a b N w = fine-answer-with (refusal (asked M a b N w)) (asked M a b N w)
+
+-- the verdict of the regular search alone: possible where a number refuses
+unfoldable pub regular-verdict-with : (number : ℕ) → Segment → Verdict
+regular-verdict-with zero s = verdict regular s
+regular-verdict-with (suc n) s = Possible
+
+unfoldable pub regular-verdict : (M a b N w : ℕ) → Verdict
+regular-verdict M a b N w = regular-verdict-with (refusal (asked M a b N w)) (asked M a b N w)
 
 -- the number of a refusal; 0 where something is shown
 unfoldable pub regular-refusal : RegularAnswer → ℕ

@@ -17,7 +17,7 @@ use Rattle.geometry.specs.Segment.{Segment, residue, Hard}
 use Rattle.geometry.specs.Promise.{Residues-correct}
 use Rattle.segment.specs.Accepted.{asked, refusal, Accepted}
 use Rattle.segment.specs.Search.{verdict, distance}
-use Rattle.segment.specs.Answer.{regular-answer, fine-answer}
+use Rattle.segment.specs.Answer.{regular-answer, fine-answer, regular-verdict}
 use Rattle.segment.specs.State.{regular-next, fine-next, next, state-after}
 use Rattle.segment.specs.declared.state.State.{State}
 use Rattle.segment.specs.declared.Verdict.{Verdict}
@@ -163,11 +163,15 @@ pub record Promised : Type 0 where
   pub regular-refused : (M a b N w n : ℕ) → for-segment (λ s. (regular-answer M a b N w ≡ regular-variants.Refused n) ↔ Refused-for s n) M a b N w
   pub fine-refused : (M a b N w n : ℕ) → for-segment (λ s. (fine-answer M a b N w ≡ fine-variants.Refused n) ↔ Refused-for s n) M a b N w
   pub steps : (k : Search) (s : Segment) → Accepted s → Steps-correct k s
-  -- the step of each search is `regular-next` or `fine-next`, which the contracts of the code's steps cite
+  -- the step of each search is `regular-next` or `fine-next`, which the contracts of the steps in state.rt cite
   pub step-of : (odd : Bool) (N : ℕ) (t : State) → (next regular odd N t ≡ regular-next odd N t) × (next fine odd N t ≡ fine-next odd N t)
   pub smaller : Smaller-cleared
   pub no-more : Fine-reaches-no-more
   pub verdicts : (k : Search) (M a b N w : ℕ) → for-segment Accepted M a b N w → Verdicts-correct k M a b N w
+  -- no search clears what is refused
+  pub cleared-accepted : (k : Search) (M a b N w : ℕ) → Cleared k M a b N w → for-segment Accepted M a b N w
+  -- the verdict alone clears exactly what the regular search clears
+  pub verdict-alone : (M a b N w : ℕ) → (regular-verdict M a b N w ≡ Clear) ↔ Cleared regular M a b N w
   pub without-window : (M a b N : ℕ) → Without-window M a b N
   -- there is no third verdict
   pub two-verdicts : (v : Verdict) → (v ≡ Clear) ⊎ (v ≡ Possible)

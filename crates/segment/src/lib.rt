@@ -1,12 +1,14 @@
 // The regular and the fine search of a segment, the line (start - step·x) mod modulus over the arguments x below count: each shows the one
-// argument of least residue below the count that it reaches, and clears the segment where that residue is no less than the window.
+// argument of least residue below the count that it reaches, and clears the segment where that residue is no less than the window. The verdict
+// of the regular search alone takes less time.
 ghost use mathlib.Core.Path.{_≡_};
 ghost use Rattle.expansion.specs.Reached.Search.{regular, fine};
 ghost use Rattle.segment.specs.Accepted.{asked, refusal, Accepted};
 ghost use Rattle.segment.specs.Search.{verdict-at};
-ghost use Rattle.segment.specs.Answer.{regular-answer, fine-answer};
+ghost use Rattle.segment.specs.Answer.{regular-answer, fine-answer, regular-verdict};
 ghost use Rattle.segment.specs.State.{state-after};
 
+mod sketch;
 mod state;
 
 use state::State;
@@ -96,6 +98,16 @@ pub fn fine_search(modulus: u64, step: u64, start: u64, count: u64, window: u64)
     })
 }
 
+// The verdict of the regular search alone, in less time; possible where the search is refused.
+pub fn regular_verdict(modulus: u64, step: u64, start: u64, count: u64, window: u64) -> Verdict
+    ensures { λ r. ⌜ r ≡ regular-verdict modulus step start count window ⌝ }
+{
+    if refuse(modulus, step, start, count, window) != 0 {
+        return Verdict::Possible;
+    }
+    judge(regular_distance(modulus, step, start, count), window)
+}
+
 // The number of the first condition that does not hold: 1 and 2 as for the expansion of the modulus and the step, else 3 for a start that is not
 // below the modulus, else 4 for a count outside 1 to 1,048,576, else 5 for a window outside 1 to the modulus. 0 where all hold.
 pub fn refuse(modulus: u64, step: u64, start: u64, count: u64, window: u64) -> u32
@@ -168,6 +180,29 @@ fn fine_end(modulus: u64, step: u64, start: u64, count: u64) -> State
     }
     // No accepted segment comes here: all are done within the budget.
     state
+}
+
+// The distance of the state in which the regular search ends, by the rows of `sketch`.
+fn regular_distance(modulus: u64, step: u64, start: u64, count: u64) -> u64
+    requires { ⌜ Accepted (asked modulus step start count 1) ⌝ }
+    ensures { λ r. ⌜ r ≡ state-after regular (asked modulus step start count 1) 29 .distance ⌝ }
+{
+    let mut sketch = sketch::first(modulus, step, start, count);
+    if sketch.done {
+        return sketch.distance;
+    }
+    while sketch.index < BUDGET {
+        sketch = sketch::even_row(sketch, count);
+        if sketch.done {
+            return sketch.distance;
+        }
+        sketch = sketch::odd_row(sketch, count);
+        if sketch.done {
+            return sketch.distance;
+        }
+    }
+    // No accepted segment comes here: all are done within the budget.
+    sketch.distance
 }
 
 fn judge(distance: u64, window: u64) -> Verdict

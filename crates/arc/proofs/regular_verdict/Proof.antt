@@ -4,7 +4,7 @@ use borrow.Author.Needs.{needs}
 use Rattle.parabola.specs.Parabola.{In-range}
 use Rattle.arc.specs.Arc.{parabola}
 use Rattle.arc.proofs.Refusals.{test-passed, test-failed}
-use Rattle.arc.proofs.Coverings.{regular-unrefused, regular-verdict, never-cleared, verdict-within}
+use Rattle.arc.proofs.Coverings.{regular-verdict, never-cleared, verdict-within}
 use Rattle.arc.proofs.regular_verdict.Statement.{statement}
 use Rattle.arc.proofs.regular_verdict.Tie as tie
 
@@ -14,19 +14,11 @@ range c = test-passed _ (c .before .is-within .ensures) (c .if1 .left)
 outside : tie.Need-returns
 outside c = never-cleared _ _ (test-failed _ (c .before .is-within .ensures) (c .if1 .taken))
 
-refused : tie.Need-returns-2
-refused c =
-    let at-search = c .before .before in
-    let at-cover = at-search .before in
-    absurd (regular-unrefused (range (at-cover .before)) (at-cover .cover .ensures) (at-search .regular-search .ensures) (c .enum-told .given .1))
-
-shown : tie.Need-returns-3
-shown c =
-    let at-search = c .before .before .before in
-    let at-cover = at-search .before in
+within : tie.Need-returns-2
+within c =
+    let at-cover = c .before in
     let r = range (at-cover .before) in
-    regular-verdict r (at-cover .cover .ensures) (at-search .regular-search .ensures) (c .before .shown .given .1) ∙ sym (verdict-within _ _ r)
+    c .regular-verdict .ensures ∙ regular-verdict r (at-cover .cover .ensures) ∙ sym (verdict-within _ _ r)
 
 pub regular-verdict-spec : {M : Type 1} → statement M
-regular-verdict-spec =
-    tie.close (tie.spec (λ c κs. tt) outside (λ c κs. range c) (λ c κs. search needs) (λ c. search needs) (λ c. search needs) refused shown)
+regular-verdict-spec = tie.close (tie.spec (λ c κs. tt) outside (λ c κs. range c) (λ c κs. search needs) within)
