@@ -1,6 +1,8 @@
 // Arcs: the parabola V(x) = (value + slope·x + curve·x(x-1)/2) mod modulus over the arguments x below count, in machine numbers. Its values and
 // slopes, and whether a search of the segment that covers it clears it. An argument of an arc is hard where V(x) is at most `highest`, on one side.
 // A domain and its parts are searched as arcs that are raised, so that this test is of both sides; a segment is an arc without a curve.
+#![tactic(auto)]
+
 ghost use Rattle.std.specs.Prelude.{◌≡◌, eqb};
 ghost use Rattle.expansion.specs.Reached.Search.{regular, fine};
 ghost use Rattle.arc.specs.Arc.{asked, parabola, refusal, point_answer, arc_verdict};

@@ -1,6 +1,8 @@
 // Scans of segments and the search of a domain, the parabola V(x) = (value + slope·x + curve·x(x-1)/2) mod modulus over the arguments x below
 // count. A domain's argument is hard where V(x) is less than the window from a multiple of the modulus, on either side: all hard arguments are
 // listed, each as origin + x and with its value, and a domain that is cleared has none. A segment's is hard where its residue is less than the window, on one side.
+#![tactic(auto)]
+
 ghost use Rattle.std.specs.Prelude.{◌≡◌, ◌^◌, ◌≤◌, ◌<◌, length};
 ghost use Rattle.expansion.specs.Reached.Search.{regular};
 ghost use Rattle.segment.specs.Search.{verdict};

@@ -1,4 +1,6 @@
 // The Euclidean continued fraction of step/modulus as a table (document 01: the ladder).
+#![tactic(auto)]
+
 ghost use Rattle.std.specs.Prelude.{◌≡◌, ◌≤◌, ◌<◌, ◌^◌};
 ghost use Rattle.expansion.specs.Rows.{expansion};
 ghost use Rattle.expansion.specs.Answer.{refusal, table_of, refused, answer};

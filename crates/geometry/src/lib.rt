@@ -1,1 +1,3 @@
 // The geometry of a segment: residues, and two-length configurations, by which both searches and the gaps between points are told. No function.
+
+#![tactic(auto)]

@@ -2,6 +2,8 @@
 //
 // A job names a domain on seven lines in fixed order, origin=, modulus=, value=, slope=, curve=, count= and window=, each with a decimal number and a
 // line feed; the first line may be left out, and the origin is 0 then. All else is refused by 8, before all other refusals.
+#![tactic(auto)]
+
 ghost use Rattle.std.specs.Prelude.{◌≡◌, length};
 ghost use Rattle.std.proofs.lemmas.List.Edits.{sets};
 ghost use Rattle.numbers.specs.Lists.{overwrite_front, place_after};

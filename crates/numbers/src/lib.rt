@@ -1,5 +1,7 @@
 // Mathematics that the other layers share: remainders of numbers and of integers, divisors, parity, sums, Fibonacci numbers, lists, pieces of a stretch, the theory of
 // a partly written buffer, refusals as checklists; and five calls on numbers and integers.
+#![tactic(auto)]
+
 ghost use Rattle.std.specs.Prelude.{◌≡◌, ◌-◌, ◌%◌, min, nat_abs};
 ghost use Rattle.numbers.specs.Integers.{◌modulo◌};
 

@@ -1,6 +1,8 @@
 // The Ostrowski digits of an argument over the denominators of an expansion, its residue from them, and modular division: the argument of a residue
 // (document 02, 2.4). A residue is here step·argument modulo the modulus, not a segment's. A digit moves it by so many of its row's remainders, up in an even
 // row and down in an odd one: that tells why an argument is close.
+#![tactic(auto)]
+
 ghost use Rattle.std.specs.Prelude.{◌≡◌, ◌+◌, ◌-◌, ◌*◌, ◌%◌, ◌<◌, ◌≤◌, ◌^◌};
 ghost use Rattle.ostrowski.specs.Answer.{refused, digits_answer, residue_answer, divide_answer};
 

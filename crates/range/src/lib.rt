@@ -1,4 +1,6 @@
 // The range of a strictly ascending list between two bounds, lo ≤ entry < hi, as a part of that same list (document 01: the cut-out).
+#![tactic(auto)]
+
 ghost use Rattle.std.specs.Prelude.{◌≡◌, true};
 ghost use Rattle.range.specs.Range.{ascending, below, start_of, count_of, place_of, Stretch};
 

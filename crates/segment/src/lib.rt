@@ -1,6 +1,8 @@
 // The regular and the fine search of a segment, the line (start - step·x) mod modulus over the arguments x below count: each shows the one
 // argument of least residue below the count that it reaches, and clears the segment where that residue is no less than the window. The verdict
 // of the regular search alone takes less time.
+#![tactic(auto)]
+
 ghost use Rattle.std.specs.Prelude.{◌≡◌};
 ghost use Rattle.expansion.specs.Reached.Search.{regular, fine};
 ghost use Rattle.segment.specs.Accepted.{asked, refusal, Accepted};

@@ -1,5 +1,7 @@
 // Texts in bytes: fields with decimal numbers, read strictly from a place of a text on; and bytes, decimal numbers and lines, written into a
 // buffer from a place on. A field is a name, a number and a line feed.
+#![tactic(auto)]
+
 ghost use Rattle.std.specs.Prelude.{◌≡◌, [], ◌∷◌};
 ghost use Rattle.std.proofs.lemmas.List.Edits.{sets};
 ghost use Rattle.numbers.specs.Lists.{place_after};
