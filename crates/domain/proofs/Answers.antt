@@ -29,7 +29,7 @@ use Rattle.arc.specs.declared.Arc.{Arc}
 use Rattle.arc.proofs.Promises as arc_promises
 use Rattle.domain.specs.Domain.{parabola_of, centred_of, hard_arguments, hard_values, covering_of, Searchable, Accepted}
 use Rattle.domain.specs.Scan.{listed_from, lowered, lowered_values}
-use Rattle.domain.specs.Phases.{marks_by, marks, report}
+use Rattle.domain.specs.Phases.{marks_by, report}
 use Rattle.domain.specs.Answer.{room, origin_checks, own_checks, domain_number, answer_with, domain_answer, marks_after, list_after, values_after, too_few, marks_with, list_with, values_with, hard_residues, scan_number, scan_answer_with}
 use Rattle.domain.specs.declared.Domain.{Domain}
 use Rattle.domain.specs.declared.DomainAnswer.{DomainAnswer}

@@ -24,7 +24,7 @@ use scan::{add, count_hard, list_all, list_hard, subtract};
 const LARGEST_ORIGIN: u64 = 4503599627370496;
 
 // A domain, with the words of a job. The origin is where it begins in its binade: its argument x is listed as origin + x.
-#[derive(Drop)]
+#[derive(Clone, Copy)]
 pub struct Domain {
     pub origin: u64,
     pub modulus: u64,
@@ -36,14 +36,14 @@ pub struct Domain {
 }
 
 // A refusal carries its number alone. Else: how many hard arguments were listed.
-#[derive(Drop)]
+#[derive(Clone, Copy)]
 pub enum ScanAnswer {
     Refused(u32),
     Listed(u32),
 }
 
 // A refusal carries its number alone. Else: the verdict of phase 1, where clear clears the whole domain, and how many hard arguments were listed.
-#[derive(Drop)]
+#[derive(Clone, Copy)]
 pub enum DomainAnswer {
     Refused(u32),
     Searched {
@@ -175,9 +175,9 @@ fn search_parts(
     values: &mut [u64],
 ) -> DomainAnswer
     requires in_range { InRange (parabola arc) }
-    requires arc_value { verdict regular (covering (parabola arc)) ≡ Possible }
+    requires not_cleared { verdict regular (covering (parabola arc)) ≡ Possible }
     requires origin_bound { origin ≤ 2 ^ 52 }
-    requires raise_lt_modulus { raise < arc.modulus }
+    requires raise_below { raise < arc.modulus }
     ensures value { result ≡ answer_with (too_few (parabola arc) (length list.old) (length values.old)) (parabola arc) }
     ensures marks_after { marks.new ≡ marks_with (too_few (parabola arc) (length list.old) (length values.old)) (parabola arc) marks.old }
     ensures list_after { list.new ≡ list_with (too_few (parabola arc) (length list.old) (length values.old)) origin (parabola arc) list.old }

@@ -12,14 +12,14 @@ use arc::Arc;
 use numbers::min;
 
 // Of a part: its mark, and how many hard arguments it has.
-#[derive(Drop)]
+#[derive(Clone, Copy)]
 struct PartReport {
     mark: u8,
     hard: u32,
 }
 
 // Of all parts: the marks, how many hard arguments each has, and how many they have together.
-#[derive(Drop)]
+#[derive(Clone, Copy)]
 pub(crate) struct Report {
     pub(crate) marks: [u8; 8],
     pub(crate) hard: [u32; 8],
@@ -29,7 +29,7 @@ pub(crate) struct Report {
 // Where a part begins.
 fn part_start(count: u64, i: u64) -> u64
     requires count_bound { count ≤ 1048576 }
-    requires i_bound { i < 8 }
+    requires is_part { i < 8 }
     ensures { result ≡ part_start count i }
 {
     i * (count / 8) + min(i, count % 8)
@@ -46,8 +46,8 @@ fn part_count(count: u64, i: u64) -> u64
 // A part with arguments is an arc of its own. It begins at an argument of the whole, so that the point there is never outside.
 fn part(arc: Arc, i: u64) -> Arc
     requires in_range { InRange (parabola arc) }
-    requires i_bound { i < 8 }
-    requires bound { 1 ≤ part_count arc.count i }
+    requires is_part { i < 8 }
+    requires some_argument { 1 ≤ part_count arc.count i }
     ensures { parabola result ≡ part (parabola arc) i }
 {
     match arc::point_at(arc, part_start(arc.count, i)) {
@@ -66,7 +66,7 @@ fn part(arc: Arc, i: u64) -> Arc
 // Phase 2, and the first half of phase 3: a part that is possible is scanned. One without arguments is neither searched nor scanned.
 fn examine_part(arc: Arc, i: u64) -> PartReport
     requires in_range { InRange (parabola arc) }
-    requires i_bound { i < 8 }
+    requires is_part { i < 8 }
     ensures { result ≡ part_report (part (parabola arc) i) }
 {
     if part_count(arc.count, i) == 0 {
@@ -115,10 +115,10 @@ pub(crate) fn list_parts(
 )
     requires in_range { InRange (parabola arc) }
     requires origin_bound { origin ≤ 2 ^ 52 }
-    requires raise_lt_modulus { raise < arc.modulus }
-    requires hard_value { hard ≡ hard_counts (parabola arc) }
-    requires arc_in_bounds { length (hard_list (parabola arc)) ≤ length list.old }
-    requires arc_in_bounds_2 { length (hard_list (parabola arc)) ≤ length values.old }
+    requires raise_below { raise < arc.modulus }
+    requires hard_counted { hard ≡ hard_counts (parabola arc) }
+    requires list_room { length (hard_list (parabola arc)) ≤ length list.old }
+    requires values_room { length (hard_list (parabola arc)) ≤ length values.old }
     ensures list_after { list.new ≡ overwrite_front (listed_from origin (parabola arc)) list.old }
     ensures values_after { values.new ≡ overwrite_front (lowered_values raise (parabola arc)) values.old }
 {
@@ -145,11 +145,11 @@ fn list_part(
 )
     requires in_range { InRange (parabola arc) }
     requires origin_bound { origin ≤ 2 ^ 52 }
-    requires raise_lt_modulus { raise < arc.modulus }
-    requires i_bound { i < 8 }
-    requires number_value { number ≡ length (hard_list (part (parabola arc) i)) }
-    requires number_in_bounds { place + number ≤ length list.old }
-    requires number_in_bounds_2 { place + number ≤ length values.old }
+    requires raise_below { raise < arc.modulus }
+    requires is_part { i < 8 }
+    requires number_counted { number ≡ length (hard_list (part (parabola arc) i)) }
+    requires list_room { place + number ≤ length list.old }
+    requires values_room { place + number ≤ length values.old }
     ensures list_after { list.new ≡ sets list.old place (listed_from (origin + part_start arc.count i) (part (parabola arc) i)) }
     ensures values_after { values.new ≡ sets values.old place (lowered_values raise (part (parabola arc) i)) }
 {

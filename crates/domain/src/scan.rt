@@ -9,7 +9,7 @@ use arc::Arc;
 use numbers::remainder;
 
 // A value of an arc, and the slope there, which leads to the next value.
-#[derive(Drop)]
+#[derive(Clone, Copy)]
 struct Point {
     value: u64,
     slope: u64,
@@ -102,11 +102,11 @@ pub(crate) fn list_hard(
     place: usize,
 )
     requires in_range { InRange (parabola arc) }
-    requires raise_lt_modulus { raise < arc.modulus }
-    requires number_value { number ≡ length (hard_list (parabola arc)) }
+    requires raise_below { raise < arc.modulus }
+    requires number_counted { number ≡ length (hard_list (parabola arc)) }
     requires begin_bound { begin ≤ 2 ^ 53 }
-    requires number_in_bounds { place + number ≤ length list.old }
-    requires number_in_bounds_2 { place + number ≤ length values.old }
+    requires list_room { place + number ≤ length list.old }
+    requires values_room { place + number ≤ length values.old }
     ensures list_after { list.new ≡ sets list.old place (listed_from begin (parabola arc)) }
     ensures values_after { values.new ≡ sets values.old place (lowered_values raise (parabola arc)) }
 {
@@ -134,9 +134,9 @@ pub(crate) fn list_hard(
 // loop: the arguments need no values, so the compiler writes several at once.
 pub(crate) fn list_all(arc: Arc, list: &mut [u64], values: &mut [u64])
     requires in_range { InRange (parabola arc) }
-    requires arc_len { length (hard_list (parabola arc)) ≡ arc.count }
-    requires count_in_bounds { arc.count ≤ length list.old }
-    requires count_in_bounds_2 { arc.count ≤ length values.old }
+    requires all_hard { length (hard_list (parabola arc)) ≡ arc.count }
+    requires list_room { arc.count ≤ length list.old }
+    requires values_room { arc.count ≤ length values.old }
     ensures list_after { list.new ≡ sets list.old 0 (listed_from 0 (parabola arc)) }
     ensures values_after { values.new ≡ sets values.old 0 (lowered_values 0 (parabola arc)) }
 {
