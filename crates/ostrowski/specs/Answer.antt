@@ -1,6 +1,6 @@
 -- What the three calls answer (document 02, 2.4). Assumes nothing: these are definitions.
 use Rattle.std.specs.Prelude.{List, [], ◌∷◌, ◌++◌, ℕ, zero, suc, replicate}
-use Rattle.std.proofs.Math.Logic.{Dec·and}
+use Rattle.std.proofs.Math.Logic.Dec
 use Rattle.std.proofs.Math.Decide.{dec_lt, dec_dvd}
 use Rattle.numbers.specs.Checklist.{Check, check, first_failing}
 use Rattle.numbers.specs.Divisors.{gcd}
@@ -18,7 +18,7 @@ argument_checks M a x = checks M a ++ (check 9 (dec_lt x (period M a)) ∷ [])
 
 -- what is asked of a target: 1 and 2, and 10 that it is below M and a multiple of gcd(a, M)
 abbrev pub target_checks : (M a t : ℕ) → List Check
-target_checks M a t = checks M a ++ (check 10 (Dec·and (dec_lt t M) (dec_dvd (gcd a M) t)) ∷ [])
+target_checks M a t = checks M a ++ (check 10 (Dec.and (dec_lt t M) (dec_dvd (gcd a M) t)) ∷ [])
 
 -- the number of the first condition that does not hold, or 0
 unfoldable pub argument_refusal : (M a x : ℕ) → ℕ
