@@ -1,5 +1,5 @@
--- The invariant of `range::count_below`'s loop: between low and high entries are below the bound. The
--- measure is how far they are apart.
+-- The invariant of `range::count_below`'s loop: between low and high entries are below the bound.
+-- The measure is how far they are apart.
 use Rattle.std.proofs.Common.{◌-◌}
 use Rattle.range.proofs.Counting.{Halving}
 use Rattle.range.proofs.count_below.Given as goal

@@ -1,5 +1,5 @@
--- The invariant of `range::is_ascending`'s loop: `so_far` tells whether the first i entries ascend strictly.
--- The measure is how many entries are left.
+-- The invariant of `range::is_ascending`'s loop: `so_far` tells whether the first i entries ascend
+-- strictly. The measure is how many entries are left.
 use Rattle.std.proofs.Common.{length, ◌-◌}
 use Rattle.range.proofs.Comparing.{Compared}
 use Rattle.range.proofs.is_ascending.Given as goal

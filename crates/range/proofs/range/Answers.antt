@@ -1,4 +1,5 @@
--- `range::range` meets its contract: the part of the list that lies where `locate` says. Assumes nothing.
+-- `range::range` meets its contract: the part of the list that lies where `locate` says. Assumes
+-- nothing.
 use Rattle.std.proofs.Common.{◌+◌, ◌≤◌, length, rules}
 use Rattle.range.proofs.Cases.{within}
 use Rattle.range.proofs.range.Goals as goal

@@ -1,5 +1,5 @@
--- The invariant of `text::put`'s loop: of the bytes that have a place, n, the first i are written. The
--- measure is how many are left.
+-- The invariant of `text::put`'s loop: of the bytes that have a place, n, the first i are written.
+-- The measure is how many are left.
 use Rattle.std.proofs.Common.{◌-◌}
 use Rattle.text.proofs.Writing.{FrontWritten}
 use Rattle.text.proofs.put.Given as goal

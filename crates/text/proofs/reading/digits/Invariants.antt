@@ -1,5 +1,5 @@
--- The invariant of `text::reading::digits`'s loop: what is to be read is what the rest makes of the number
--- so far. The measure is the length of the rest.
+-- The invariant of `text::reading::digits`'s loop: what is to be read is what the rest makes of the
+-- number so far. The measure is the length of the rest.
 use Rattle.std.proofs.Common.{◌-◌, ◌≡◌, drop, length}
 use Rattle.text.specs.Reading.{digits_from}
 use Rattle.text.proofs.reading.digits.Given as goal

@@ -1,5 +1,5 @@
--- The invariant of `text::reading::starts_with`'s loop: the rest of the name is still to be found at the
--- place k. The measure is the length of that rest.
+-- The invariant of `text::reading::starts_with`'s loop: the rest of the name is still to be found
+-- at the place k. The measure is the length of that rest.
 use Rattle.std.proofs.Common.{◌-◌, ◌≡◌, drop, length}
 use Rattle.text.specs.Reading.{starts}
 use Rattle.text.proofs.reading.starts_with.Given as goal
