@@ -49,8 +49,8 @@ pub fn signed_field(text: &[u8], at: usize, name: &[u8]) -> FoundSigned
 
 // Writes bytes from a place on, as far as there are places, and tells the place after them.
 pub fn put(bytes: &[u8], out: &mut [u8], at: usize) -> usize
-    ensures value { result ≡ place_after at bytes.now out.old }
-    ensures out_after { out.new ≡ sets out.old at bytes.now }
+    ensures place { result ≡ place_after at bytes.now out.old }
+    ensures written { out.new ≡ sets out.old at bytes.now }
 {
     let room = saturating_sub(out.len() as u64, at as u64);
     let n = min(bytes.len() as u64, room) as usize;
@@ -64,8 +64,8 @@ pub fn put(bytes: &[u8], out: &mut [u8], at: usize) -> usize
 
 // The same for one byte.
 pub fn put_byte(x: u8, out: &mut [u8], at: usize) -> usize
-    ensures value { result ≡ place_after at (x ∷ []) out.old }
-    ensures out_after { out.new ≡ sets out.old at (x ∷ []) }
+    ensures place { result ≡ place_after at (x ∷ []) out.old }
+    ensures written { out.new ≡ sets out.old at (x ∷ []) }
 {
     if out.len() <= at {
         return at;
@@ -77,8 +77,8 @@ pub fn put_byte(x: u8, out: &mut [u8], at: usize) -> usize
 // The same for a number in decimal. Division by ten gives the last digit first, so the digits fill an array of twenty bytes from its end; every
 // number below 2^64 fits.
 pub fn put_number(n: u64, out: &mut [u8], at: usize) -> usize
-    ensures value { result ≡ place_after at (decimal n) out.old }
-    ensures out_after { out.new ≡ sets out.old at (decimal n) }
+    ensures place { result ≡ place_after at (decimal n) out.old }
+    ensures written { out.new ≡ sets out.old at (decimal n) }
 {
     let mut digits = [0u8; 20];
     let mut first = 19;
@@ -94,8 +94,8 @@ pub fn put_number(n: u64, out: &mut [u8], at: usize) -> usize
 
 // The same for a name, a number and a line feed.
 pub fn put_line(name: &[u8], n: u64, out: &mut [u8], at: usize) -> usize
-    ensures value { result ≡ place_after at (line name.now (decimal n) []) out.old }
-    ensures out_after { out.new ≡ sets out.old at (line name.now (decimal n) []) }
+    ensures place { result ≡ place_after at (line name.now (decimal n) []) out.old }
+    ensures written { out.new ≡ sets out.old at (line name.now (decimal n) []) }
 {
     let after_name = put(name, out, at);
     let after_number = put_number(n, out, after_name);
