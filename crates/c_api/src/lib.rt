@@ -50,7 +50,7 @@ pub extern "C" fn geyserdish_digits(
     digits: &mut [u64; 88],
     count: &mut u64,
 ) -> u32
-    ensures value { result ≡ (digits_answer modulus step argument).refusal }
+    ensures returned { result ≡ (digits_answer modulus step argument).refusal }
     ensures digits_after { digits.new ≡ digits_memory (digits_answer modulus step argument) digits.old }
     ensures count_after { count.new ≡ count_memory (digits_answer modulus step argument) count.old }
 {
@@ -73,7 +73,7 @@ pub extern "C" fn geyserdish_residue(
     argument: u64,
     residue: &mut u64,
 ) -> u32
-    ensures value { result ≡ refusal_of (residue_answer modulus step argument) }
+    ensures returned { result ≡ refusal_of (residue_answer modulus step argument) }
     ensures residue_after { residue.new ≡ number_memory (residue_answer modulus step argument) residue.old }
 {
     match ostrowski::residue(modulus, step, argument) {
@@ -88,7 +88,7 @@ pub extern "C" fn geyserdish_residue(
 // ostrowski::divide: returns 0 or the refusal. The argument is left as it was on a refusal.
 #[unsafe(no_mangle)]
 pub extern "C" fn geyserdish_divide(modulus: u64, step: u64, target: u64, argument: &mut u64) -> u32
-    ensures value { result ≡ refusal_of (divide_answer modulus step target) }
+    ensures returned { result ≡ refusal_of (divide_answer modulus step target) }
     ensures argument_after { argument.new ≡ number_memory (divide_answer modulus step target) argument.old }
 {
     match ostrowski::divide(modulus, step, target) {
@@ -111,7 +111,7 @@ pub extern "C" fn geyserdish_regular_search(
     window: u64,
     shown: &mut [u64; 5],
 ) -> u32
-    ensures value { result ≡ regular_refusal (regular_answer modulus step start count window) }
+    ensures returned { result ≡ regular_refusal (regular_answer modulus step start count window) }
     ensures shown_after { shown.new ≡ regular_memory (regular_answer modulus step start count window) shown.old }
 {
     match segment::regular_search(modulus, step, start, count, window) {
@@ -140,7 +140,7 @@ pub extern "C" fn geyserdish_fine_search(
     window: u64,
     shown: &mut [u64; 6],
 ) -> u32
-    ensures value { result ≡ fine_refusal (fine_answer modulus step start count window) }
+    ensures returned { result ≡ fine_refusal (fine_answer modulus step start count window) }
     ensures shown_after { shown.new ≡ fine_memory (fine_answer modulus step start count window) shown.old }
 {
     match segment::fine_search(modulus, step, start, count, window) {
@@ -173,7 +173,7 @@ pub extern "C" fn geyserdish_scan_segment(
     values: &mut [u64],
     listed: &mut u64,
 ) -> u32
-    ensures value { result ≡ scan_refusal (scan_answer modulus step start count window (length list.old) (length values.old)) }
+    ensures returned { result ≡ scan_refusal (scan_answer modulus step start count window (length list.old) (length values.old)) }
     ensures list_after { list.new ≡ scan_list_after modulus step start count window (length values.old) list.old }
     ensures values_after { values.new ≡ scan_values_after modulus step start count window (length list.old) values.old }
     ensures listed_after { listed.new ≡ scan_memory (scan_answer modulus step start count window (length list.old) (length values.old)) listed.old }
@@ -204,7 +204,7 @@ pub extern "C" fn geyserdish_search_domain(
     marks: &mut [u8; 8],
     searched: &mut [u64; 2],
 ) -> u32
-    ensures value { result ≡ domain_refusal (domain_answer (domain_of origin modulus value slope curve count window) (length list.old) (length values.old)) }
+    ensures returned { result ≡ domain_refusal (domain_answer (domain_of origin modulus value slope curve count window) (length list.old) (length values.old)) }
     ensures list_after { list.new ≡ list_after (domain_of origin modulus value slope curve count window) (length values.old) list.old }
     ensures values_after { values.new ≡ values_after (domain_of origin modulus value slope curve count window) (length list.old) values.old }
     ensures marks_after { marks.new ≡ marks_after (domain_of origin modulus value slope curve count window) (length list.old) (length values.old) marks.old }
@@ -231,7 +231,7 @@ pub extern "C" fn geyserdish_search_domain(
 // range::range: returns how many entries the range has, and leaves in start where it begins in the list.
 #[unsafe(no_mangle)]
 pub extern "C" fn geyserdish_range(list: &[u64], lo: u64, hi: u64, start: &mut u64) -> u64
-    ensures value { result ≡ count_of lo hi list.now }
+    ensures returned { result ≡ count_of lo hi list.now }
     ensures start_after { start.new ≡ start_of lo hi list.now }
 {
     let place = range::locate(list, lo, hi);

@@ -1,0 +1,10 @@
+-- `c_api::geyserdish_residue` meets its contract: it hands over what `residue` answers. Assumes nothing.
+use Rattle.std.proofs.Common.{sym, ◌∙◌}
+use Rattle.c_api.proofs.Memory.{number_refused, number_answered}
+use Rattle.c_api.proofs.geyserdish_residue.Goals as goal
+
+pub returns-in-Refused : goal.returns-in-Refused
+returns-in-Refused c = let m = number_refused _ (sym c.residue.ensures ∙ c.in-Refused.is) in record { returned = m.0; residue_after = m.1 }
+
+pub returns-in-Found : goal.returns-in-Found
+returns-in-Found c = let m = number_answered _ (sym c.residue.ensures ∙ c.in-Found.is) in record { returned = m.0; residue_after = m.1 }
