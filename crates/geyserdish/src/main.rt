@@ -4,10 +4,29 @@
 // bytes decide what is printed. A read that fails counts as the end of the input, and a write that fails ends the program.
 #![tactic(auto)]
 
-fn main() {
-    let mut input = io::buffer();
-    let length = io::read_full(libc::STDIN_FILENO, &mut input);
+ghost use Rattle.std.specs.Prelude.{◌≤◌, length};
+
+use std::io::{Input, Read, Write};
+
+fn main(rt: HostRuntime) {
+    let mut input = [0u8; 4096];
+    let length = read_front(&mut rt.stdin(), &mut input);
     let mut output = [0u8; job::LONGEST];
     let printed = job::run_job(&input[..length], &mut output);
-    io::write_all(libc::STDOUT_FILENO, &output[..printed]);
+    let _ = rt.stdout().write_all(&output[..printed]);
+}
+
+// Reads until the buffer is full, the input ends or a read fails, and answers how many bytes it put at the front of the buffer.
+fn read_front<R: Read>(input: &mut R, buffer: &mut [u8]) -> usize
+    ensures { result ≤ length buffer.new }
+{
+    let mut done: usize = 0;
+    while done < buffer.len() {
+        match input.read(&mut buffer[done..]) {
+            Ok(0) => break,
+            Ok(n) => done = done + n,
+            Err(_) => break,
+        }
+    }
+    done
 }
