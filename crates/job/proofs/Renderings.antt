@@ -71,7 +71,7 @@ module _ (t : List ℕ) (d : Domain) where
   unfolding lines_from rest_from six_lines
   lines_stand at origin origin_fits e =
       field_first (bytes "modulus=") at _ e λ modulus a modulus_line modulus_fits e.
-      field_first (bytes "value=") a _ e λ value b ValueLine value_fits e.
+      field_first (bytes "value=") a _ e λ value b value_line value_fits e.
       field_first (bytes "slope=") b _ e λ slope c slope_line slope_fits e.
       signed_first (bytes "curve=") c _ e λ curve f curve_line curve_fits e.
       field_first (bytes "count=") f _ e λ count g count_line count_fits e.
@@ -82,7 +82,7 @@ module _ (t : List ℕ) (d : Domain) where
         omega arith,
         refl,
         modulus_line ∙ ap (line (bytes "modulus=") (decimal modulus))
-            (ValueLine ∙ ap (line (bytes "value=") (decimal value))
+            (value_line ∙ ap (line (bytes "value=") (decimal value))
             (slope_line ∙ ap (line (bytes "slope=") (decimal slope))
             (curve_line ∙ ap (line (bytes "curve=") (signed_decimal curve))
             (count_line ∙ ap (line (bytes "count=") (decimal count))

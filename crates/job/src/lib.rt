@@ -83,17 +83,17 @@ fn read_rest(text: &[u8], at: usize, origin: u64, modulus: u64, value: u64, slop
 // Runs the job of a text and prints the answer from the first place of the buffer on; the places after it are left as they were. Tells how
 // many bytes it printed. The buffer is as large as the longest answer, of 4,096 arguments and their values.
 pub fn run_job(text: &[u8], out: &mut [u8; LONGEST]) -> usize
-    ensures value { result ≡ length (output_of text.now) }
-    ensures out_after { out.new ≡ overwrite_front (output_of text.now) out.old }
-    ensures out_len { length out.old ≡ longest }
+    ensures count { result ≡ length (output_of text.now) }
+    ensures written { out.new ≡ overwrite_front (output_of text.now) out.old }
+    ensures room { length out.old ≡ longest }
 {
     print_answer(read_job(text), out)
 }
 
 // Prints the answer to a job, or the refusal of a text that is none.
 fn print_answer(job: Reading, out: &mut [u8]) -> usize
-    ensures value { result ≡ place_after 0 (output_with job) out.old }
-    ensures out_after { out.new ≡ sets out.old 0 (output_with job) }
+    ensures place { result ≡ place_after 0 (output_with job) out.old }
+    ensures written { out.new ≡ sets out.old 0 (output_with job) }
 {
     let mut marks = [0u8; 8];
     let mut list = [0u64; 4096];

@@ -10,8 +10,8 @@ use text::{put, put_byte, put_line, put_number};
 
 // A refusal is its number alone.
 pub(crate) fn put_refusal(number: u64, out: &mut [u8]) -> usize
-    ensures value { result ≡ place_after 0 (refused number) out.old }
-    ensures out_after { out.new ≡ sets out.old 0 (refused number) }
+    ensures place { result ≡ place_after 0 (refused number) out.old }
+    ensures written { out.new ≡ sets out.old 0 (refused number) }
 {
     put_line(b"refused=", number, out, 0)
 }
@@ -25,9 +25,9 @@ pub(crate) fn put_report(
     out: &mut [u8],
 ) -> usize
     requires small_marks { SmallMarks marks.now }
-    requires values_len { length values.now ≡ length arguments.now }
-    ensures value { result ≡ place_after 0 (report first marks.now arguments.now values.now) out.old }
-    ensures out_after { out.new ≡ sets out.old 0 (report first marks.now arguments.now values.now) }
+    requires as_many { length values.now ≡ length arguments.now }
+    ensures place { result ≡ place_after 0 (report first marks.now arguments.now values.now) out.old }
+    ensures written { out.new ≡ sets out.old 0 (report first marks.now arguments.now values.now) }
 {
     let after_first = put_first(first, out, 0);
     let after_parts = put_parts(marks, out, after_first);
@@ -37,8 +37,8 @@ pub(crate) fn put_report(
 
 // The line of phase 1's verdict.
 fn put_first(first: segment::Verdict, out: &mut [u8], at: usize) -> usize
-    ensures value { result ≡ place_after at (line (bytes "first=") (verdict_name first) []) out.old }
-    ensures out_after { out.new ≡ sets out.old at (line (bytes "first=") (verdict_name first) []) }
+    ensures place { result ≡ place_after at (line (bytes "first=") (verdict_name first) []) out.old }
+    ensures written { out.new ≡ sets out.old at (line (bytes "first=") (verdict_name first) []) }
 {
     let after_name = put(b"first=", out, at);
     let after_verdict = put_verdict(first, out, after_name);
@@ -47,8 +47,8 @@ fn put_first(first: segment::Verdict, out: &mut [u8], at: usize) -> usize
 
 // What a verdict is called.
 fn put_verdict(verdict: segment::Verdict, out: &mut [u8], at: usize) -> usize
-    ensures value { result ≡ place_after at (verdict_name verdict) out.old }
-    ensures out_after { out.new ≡ sets out.old at (verdict_name verdict) }
+    ensures place { result ≡ place_after at (verdict_name verdict) out.old }
+    ensures written { out.new ≡ sets out.old at (verdict_name verdict) }
 {
     match verdict {
         segment::Verdict::Clear => put(b"cleared", out, at),
@@ -59,8 +59,8 @@ fn put_verdict(verdict: segment::Verdict, out: &mut [u8], at: usize) -> usize
 // The line of the marks.
 fn put_parts(marks: &[u8], out: &mut [u8], at: usize) -> usize
     requires { SmallMarks marks.now }
-    ensures value { result ≡ place_after at (line (bytes "parts=") (mark_digits marks.now) []) out.old }
-    ensures out_after { out.new ≡ sets out.old at (line (bytes "parts=") (mark_digits marks.now) []) }
+    ensures place { result ≡ place_after at (line (bytes "parts=") (mark_digits marks.now) []) out.old }
+    ensures written { out.new ≡ sets out.old at (line (bytes "parts=") (mark_digits marks.now) []) }
 {
     let after_name = put(b"parts=", out, at);
     let after_marks = put_marks(marks, out, after_name);
@@ -70,8 +70,8 @@ fn put_parts(marks: &[u8], out: &mut [u8], at: usize) -> usize
 // The marks, a digit each.
 fn put_marks(marks: &[u8], out: &mut [u8], at: usize) -> usize
     requires { SmallMarks marks.now }
-    ensures value { result ≡ place_after at (mark_digits marks.now) out.old }
-    ensures out_after { out.new ≡ sets out.old at (mark_digits marks.now) }
+    ensures place { result ≡ place_after at (mark_digits marks.now) out.old }
+    ensures written { out.new ≡ sets out.old at (mark_digits marks.now) }
 {
     let mut i = 0;
     let mut end = at;
@@ -85,8 +85,8 @@ fn put_marks(marks: &[u8], out: &mut [u8], at: usize) -> usize
 // A line for each argument and its value.
 fn put_arguments(arguments: &[u64], values: &[u64], out: &mut [u8], at: usize) -> usize
     requires { length values.now ≡ length arguments.now }
-    ensures value { result ≡ place_after at (argument_lines arguments.now values.now) out.old }
-    ensures out_after { out.new ≡ sets out.old at (argument_lines arguments.now values.now) }
+    ensures place { result ≡ place_after at (argument_lines arguments.now values.now) out.old }
+    ensures written { out.new ≡ sets out.old at (argument_lines arguments.now values.now) }
 {
     let mut i = 0;
     let mut end = at;

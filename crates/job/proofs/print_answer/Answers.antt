@@ -1,0 +1,45 @@
+-- `job::print_answer` meets its contract: the refusal's line, or what the search found.
+-- Assumes nothing.
+use Rattle.std.proofs.Common.{sym, ◌∙◌}
+use lib.Seq.{length-take-le}
+use Rattle.job.proofs.Outputs.{output_refused, output_reported, output_from}
+use Rattle.job.proofs.print_answer.Goals as goal
+
+pub slice_bounds-list-end : goal.slice_bounds-list-end
+slice_bounds-list-end c =
+    let found = output_reported c.args.job (sym c.search.ensures.value ∙ c.in-Searched.is) in
+    rw c.search.ensures.list_after found.within
+
+pub slice_bounds-values-end : goal.slice_bounds-values-end
+slice_bounds-values-end c =
+    let found = output_reported c.args.job (sym c.search.ensures.value ∙ c.in-Searched.is) in
+    rw c.search.ensures.values_after found.values_within
+
+pub slice_bounds-put_report-end-in-Searched : goal.slice_bounds-put_report-end-in-Searched
+slice_bounds-put_report-end-in-Searched c =
+    let found = output_reported c.args.job (sym c.search.ensures.value ∙ c.in-Searched.is) in
+    sym (length-take-le _ _ (rw c.search.ensures.list_after found.within))
+
+pub slice_bounds-put_report-end-in-Searched-2 : goal.slice_bounds-put_report-end-in-Searched-2
+slice_bounds-put_report-end-in-Searched-2 c =
+    let found = output_reported c.args.job (sym c.search.ensures.value ∙ c.in-Searched.is) in
+    sym (length-take-le _ _ (rw c.search.ensures.values_after found.values_within))
+
+pub put_report-requires-clause-small_marks : goal.put_report-requires-clause-small_marks
+put_report-requires-clause-small_marks c =
+    let found = output_reported c.args.job (sym c.search.ensures.value ∙ c.in-Searched.is) in
+    rw c.search.ensures.marks_after found.small
+
+pub returns-in-Refused : goal.returns-in-Refused
+returns-in-Refused c =
+    let p = c.put_refusal.ensures in
+    rw (output_refused c.args.job (sym c.search.ensures.value ∙ c.in-Refused.is))
+    (record { place = p.place; written = p.written })
+
+pub returns-in-Searched : goal.returns-in-Searched
+returns-in-Searched c =
+    let s = c.search.ensures in
+    let found = output_reported c.args.job (sym s.value ∙ c.in-Searched.is) in
+    let p = c.put_report.ensures in
+    rw (output_from found s.marks_after s.list_after s.values_after)
+    (record { place = p.place; written = p.written })
