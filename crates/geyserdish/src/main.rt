@@ -23,8 +23,12 @@ fn read_front<R: Read>(input: &mut R, buffer: &mut [u8]) -> usize
     let mut done: usize = 0;
     while done < buffer.len() {
         match input.read(&mut buffer[done..]) {
-            Ok(0) => break,
-            Ok(n) => done = done + n,
+            Ok(count) => {
+                if count == 0 {
+                    break;
+                }
+                done = done + count;
+            }
             Err(_) => break,
         }
     }
