@@ -7,7 +7,7 @@ use crate::Arc;
 use numbers::{magnitude, min, reduce};
 
 // What a search asks of the covering segment beside the modulus and the count, which are the arc's.
-#[derive(Drop)]
+#[derive(Clone, Copy)]
 pub(crate) struct Covering {
     pub(crate) step: u64,
     pub(crate) start: u64,

@@ -15,7 +15,7 @@ use numbers::magnitude;
 use values::{slope_at, value_at};
 
 // `highest` is the highest hard value, one less than the window.
-#[derive(Drop)]
+#[derive(Clone, Copy)]
 pub struct Arc {
     pub modulus: u64,
     pub value: u64,
@@ -26,7 +26,7 @@ pub struct Arc {
 }
 
 // V(x) and the slope there, V(x + 1) - V(x); or x is not an argument of an arc within the bounds.
-#[derive(Drop)]
+#[derive(Clone, Copy)]
 pub enum PointAnswer {
     Outside,
     At { value: u64, slope: u64 },

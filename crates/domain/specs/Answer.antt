@@ -1,6 +1,6 @@
 -- What the two calls answer, and what they leave in the caller's buffers. Assumes nothing: these are definitions.
 use Rattle.std.specs.Prelude.{List, [], ◌∷◌, ◌++◌, map, ℕ, zero, suc, ◌^◌, length}
-use Rattle.std.proofs.Math.Logic.{Dec·and}
+use Rattle.std.proofs.Math.Logic.Dec
 use Rattle.std.proofs.Math.Decide.{dec_le}
 use Rattle.numbers.specs.Checklist.{Check, check, first_failing, unless_refused}
 use Rattle.numbers.specs.Lists.{overwrite_front}
@@ -24,7 +24,7 @@ use Rattle.domain.specs.declared.ScanAnswer.TheVariants as scan_variants
 
 -- 7, unless the list and the values each have a place for every hard argument
 abbrev pub room : (xs : List ℕ) → (list_places value_places : ℕ) → List Check
-room xs m n = check 7 (Dec·and (dec_le (length xs) m) (dec_le (length xs) n)) ∷ []
+room xs m n = check 7 (Dec.and (dec_le (length xs) m) (dec_le (length xs) n)) ∷ []
 
 -- ---- domains
 

@@ -1,6 +1,6 @@
 -- Which segments the searches accept, and by which number the others are refused. Assumes nothing: these are definitions.
 use Rattle.std.specs.Prelude.{List, [], ◌∷◌, ◌++◌, ℕ, ◌≤◌, ◌<◌}
-use Rattle.std.proofs.Math.Logic.{Dec·and}
+use Rattle.std.proofs.Math.Logic.Dec
 use Rattle.std.proofs.Math.Decide.{dec_le, dec_lt}
 use Rattle.numbers.specs.Checklist.{Check, check, first_failing}
 use Rattle.numbers.specs.Unit.{Ranged}
@@ -16,8 +16,8 @@ abbrev pub checks : Segment → List Check
 checks s =
     expansion.checks s.unit s.step
     ++ check 3 (dec_lt s.start s.unit)
-    ∷ check 4 (Dec·and (dec_le 1 s.count) (dec_le s.count 1048576))
-    ∷ check 5 (Dec·and (dec_le 1 s.window) (dec_le s.window s.unit))
+    ∷ check 4 (Dec.and (dec_le 1 s.count) (dec_le s.count 1048576))
+    ∷ check 5 (Dec.and (dec_le 1 s.window) (dec_le s.window s.unit))
     ∷ []
 
 -- the number of the first condition that does not hold, or 0

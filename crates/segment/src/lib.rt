@@ -16,7 +16,7 @@ mod state;
 use state::{State, fine_even, fine_odd, first, regular_even, regular_odd};
 
 // Clear: the distance is at least the window. Possible: it is less, which does not yet make an argument below the count hard.
-#[derive(Drop)]
+#[derive(Clone, Copy)]
 pub enum Verdict {
     Clear,
     Possible,
@@ -24,7 +24,7 @@ pub enum Verdict {
 
 // What the regular search shows: the count that it reached, the quotients that it drew to get there, the least residue below that count,
 // and the argument that has it.
-#[derive(Drop)]
+#[derive(Clone, Copy)]
 pub struct Regular {
     pub count: u64,
     pub quotients: u32,
@@ -34,7 +34,7 @@ pub struct Regular {
 }
 
 // What the fine search shows: the same, with the label (index, part) of the configuration that it reached in place of the quotients.
-#[derive(Drop)]
+#[derive(Clone, Copy)]
 pub struct Fine {
     pub count: u64,
     pub index: u32,
@@ -45,13 +45,13 @@ pub struct Fine {
 }
 
 // A refusal carries its number alone.
-#[derive(Drop)]
+#[derive(Clone, Copy)]
 pub enum RegularAnswer {
     Refused(u32),
     Shown(Regular),
 }
 
-#[derive(Drop)]
+#[derive(Clone, Copy)]
 pub enum FineAnswer {
     Refused(u32),
     Shown(Fine),

@@ -5,7 +5,7 @@ ghost use Rattle.std.specs.Prelude.{◌≡◌, true, cond};
 ghost use Rattle.segment.specs.Sketch.{first_sketch, Divisible, from_lowest_cut, next_row, even_next, odd_next};
 
 // What a verdict needs of a state. wide: at an odd row, whether the start lies in a long gap. Once done, only the distance has a meaning: it is that of the search.
-#[derive(Drop)]
+#[derive(Clone, Copy)]
 pub(crate) struct Sketch {
     pub(crate) long: u64,
     pub(crate) short: u64,

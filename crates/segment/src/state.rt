@@ -13,7 +13,7 @@ use numbers::{min, saturating_sub};
 
 // longs gaps of length long and shorts gaps of length short, after part cuts of the row index; the argument of least residue below the count
 // longs + shorts, and its residue, the distance. Done: this is the configuration that the search reaches.
-#[derive(Drop)]
+#[derive(Clone, Copy)]
 pub(crate) struct State {
     pub(crate) long: u64,
     pub(crate) short: u64,
@@ -27,14 +27,14 @@ pub(crate) struct State {
 }
 
 // How often a row's long gaps are cut, and what that leaves of them.
-#[derive(Drop)]
+#[derive(Clone, Copy)]
 struct Cuts {
     number: u64,
     rest: u64,
 }
 
 // The point below the start: its argument and its residue.
-#[derive(Drop)]
+#[derive(Clone, Copy)]
 struct Nearest {
     argument: u64,
     distance: u64,

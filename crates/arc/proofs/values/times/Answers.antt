@@ -1,0 +1,26 @@
+-- `arc::values::times` meets its contract. Assumes nothing.
+use Rattle.std.proofs.Common.{arith}
+use native.Mathlib.Nat.{div-add-mod'}
+use Rattle.arc.proofs.Products.{first_digit, digit_below, next_digit, no_digit}
+use Rattle.arc.proofs.values.times.Goals as goal
+
+pub loop-left-init : goal.loop-left-init
+loop-left-init c = first_digit _ _ c.requires.1 c.requires.0
+
+pub overflow_mul-double : goal.overflow_mul-double
+overflow_mul-double c = let m = c.loop-left.invariant in record { fits = omega (arith, digit_below m, m.high) }
+
+pub add-sum-requires : goal.add-sum-requires
+add-sum-requires c = let m = c.loop-left.invariant in (m.sum_below, digit_below m, m.high)
+
+pub add-double-requires : goal.add-double-requires
+add-double-requires c = let m = c.loop-left.invariant in (m.double_below, m.double_below, m.high)
+
+pub loop-left-smaller : goal.loop-left-smaller
+loop-left-smaller c = omega (arith, c.loop-left-test.true, div-add-mod' c.loop-left.left 2)
+
+pub loop-left-preserved : goal.loop-left-preserved
+loop-left-preserved c = rw (c.add-double.ensures, c.add-sum.ensures) (next_digit c.loop-left.invariant)
+
+pub returns : goal.returns
+returns c = no_digit c.loop-left.invariant c.loop-left-test.false

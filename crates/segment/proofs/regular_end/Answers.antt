@@ -1,0 +1,55 @@
+-- `segment::regular_end` meets its contract. Assumes nothing.
+use Rattle.std.proofs.Common.{arith, true, false}
+use Rattle.expansion.specs.Reached.Search.{regular}
+use Rattle.segment.specs.Accepted.{asked}
+use Rattle.segment.specs.State.{next}
+use Rattle.segment.proofs.Invariant.{row_few}
+use Rattle.segment.proofs.Steps.{unreached, steppable, regular_index}
+use Rattle.segment.proofs.Stepping.{At, first_runs, first_done, running, goes_on, is_done}
+use Rattle.segment.proofs.regular_end.Goals as goal
+
+pub returns-then-state : goal.returns-then-state
+returns-then-state c = first_done regular c.requires c.first-state.ensures c.if-state.true
+
+pub loop-state-init : goal.loop-state-init
+loop-state-init c = first_runs regular c.requires c.first-state.ensures c.if-state.false
+
+pub regular_even-state-requires : goal.regular_even-state-requires
+regular_even-state-requires c = let r = running c.loop-state.invariant in record { steppable = steppable r; unreached = unreached r }
+
+pub returns-then-state-2 : goal.returns-then-state-2
+returns-then-state-2 c = is_done c.loop-state.invariant (unfold next in c.regular_even-state.ensures) c.if-state-2.true
+
+pub regular_odd-state-requires : goal.regular_odd-state-requires
+regular_odd-state-requires c =
+    let o : At regular (asked c.args.modulus c.args.step c.args.start c.args.count 1) true c.regular_even-state.result =
+    goes_on c.loop-state.invariant (unfold next in c.regular_even-state.ensures) c.if-state-2.false in
+    let r = running o in
+    record { steppable = steppable r; unreached = unreached r }
+
+pub returns-then-state-3 : goal.returns-then-state-3
+returns-then-state-3 c =
+    let o : At regular (asked c.args.modulus c.args.step c.args.start c.args.count 1) true c.regular_even-state.result =
+    goes_on c.loop-state.invariant (unfold next in c.regular_even-state.ensures) c.if-state-2.false in
+    is_done o (unfold next in c.regular_odd-state.ensures)
+    c.if-state-3.true
+
+pub loop-state-smaller : goal.loop-state-smaller
+loop-state-smaller c =
+    omega (
+      arith,
+      c.loop-state-test.true,
+      regular_index false _ _ c.regular_even-state.ensures,
+      regular_index true _ _ c.regular_odd-state.ensures,
+    )
+
+pub loop-state-preserved : goal.loop-state-preserved
+loop-state-preserved c =
+    let o : At regular (asked c.args.modulus c.args.step c.args.start c.args.count 1) true c.regular_even-state.result =
+    goes_on c.loop-state.invariant (unfold next in c.regular_even-state.ensures) c.if-state-2.false in
+    goes_on o (unfold next in c.regular_odd-state.ensures)
+    c.if-state-3.false
+
+-- the budget is never spent
+pub returns : goal.returns
+returns c = let h = row_few (running c.loop-state.invariant) in absurd (omega arith)
