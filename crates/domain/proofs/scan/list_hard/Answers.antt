@@ -17,7 +17,7 @@ pub subtract-requires : goal.subtract-requires
 subtract-requires c =
     let b = at_below c.loop-at.invariant.point in
     let next_below : c.next-point.result.value < c.args.arc.modulus = rw c.next-point.ensures (at_below (at_next c.loop-at.invariant.point)).value_below in
-    (b.value_below, c.requires.raise_below)
+    (omega (arith, b.value_below, next_below), c.requires.raise_below)
 
 pub bounds-values-at : goal.bounds-values-at
 bounds-values-at c = omega (arith, c.loop-at.invariant.values_column.writing.length_kept, c.loop-at-test.true, c.requires.values_room)
