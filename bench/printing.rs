@@ -22,8 +22,8 @@ const RUNS: usize = 16;
 
 #[link(name = "program", kind = "static")]
 unsafe extern "C" {
-    /// The program's main function.
-    safe fn program_main() -> i32;
+    /// The program's main function, which looks at no argument.
+    safe fn program_main(number: i32, arguments: *const *const u8) -> i32;
 }
 
 /// What the program reads, and what it wrote where that is to be kept.
@@ -59,6 +59,12 @@ unsafe extern "C" fn program_write(_: i32, from: *const u8, length: usize) -> is
     length as isize
 }
 
+/// What a read or a write failed by: none does.
+#[no_mangle]
+extern "C" fn rattle_errno() -> i32 {
+    0
+}
+
 /// A line whose last value is one less than the modulus, so that its last w - 1 arguments, and no others, are less than the window away
 /// from a multiple of the modulus.
 struct Job {
@@ -80,7 +86,7 @@ impl Job {
     /// Runs the program; what it wrote, where that is to be kept.
     fn run(&self, output: Option<Vec<u8>>) -> Option<Vec<u8>> {
         STANDARD.set(Standard { input: self.text().into_bytes(), output });
-        program_main();
+        program_main(0, std::ptr::null());
         STANDARD.take().output
     }
 

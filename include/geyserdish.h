@@ -1,6 +1,6 @@
 /*
- * Geyserdish: the proved calls as C functions, for C99 and C++ on x86-64 Linux. `rt staticlib c_api` proves them and builds the
- * library that has them, target/staticlib/libc_api.a. crates/c_api/src/lib.rt has their contracts; tests/header compares it with
+ * Geyserdish: the proved calls as C functions, for C99 and C++ on x86-64 Linux. `rt lib` in crates/c_api proves them and builds
+ * the library that has them, crates/c_api/out/libc_api.a. crates/c_api/src/lib.rt has their contracts; tests/header compares it with
  * the declarations below.
  *
  * All numbers are whole. A segment has a modulus, a step, a start, a count and a window. Its residue at x is (start - step*x) mod
