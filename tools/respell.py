@@ -4,10 +4,11 @@
 usage: python3 tools/respell.py    at the top of the repository, once, right after the kit's port.py
 
 A word with hyphens becomes snake case, a type or a module with hyphens camel case: first-failing is
-first_failing, All-hold is AllHold. Only names that this repository declares in specs/ and proofs/, or gives by
-'as', are turned, and none that a library declares too, nor names that the toolchain makes (of goals, of steps).
-Turned are the .antt files, the clauses of the .rt files, the must-fail edits, and in comments and
-documents the words between backquotes. Functions of src/, exported names and strings stay.
+first_failing, All-hold is AllHold. Only names that this repository declares in specs/ and proofs/, or
+gives by 'as', are turned, and none that a file here imports from a library, nor names that the
+toolchain makes, of invariants and measures. Turned are the .antt files but for strings, the clauses of
+the .rt files, the must-fail edits, and in comments and documents the words between backquotes.
+Functions of src/ and exported names stay.
 """
 
 import collections
@@ -33,7 +34,6 @@ ALIAS = re.compile(r"\bas (" + WORD + r")(?![\w'-])")
 LET = re.compile(r"\blet (" + WORD + r")\b")
 
 IMPORT = re.compile(r"(?m)^\s*(?:pub )?use ([\w.·-]+)\.\{([^}]*)\}")
-GHOST_IMPORT = re.compile(r"ghost use ([\w.·-]+)(?:::|\.)\{([^}]*)\};")
 
 # Names that the toolchain makes, of invariants and measures.
 MADE = re.compile(r"^(?:invariant|decreases)-loop")

@@ -43,7 +43,7 @@ module _ {A : Type 0} (d : A) where
   member_place x (y ∷ xs) m =
       ⊎_elim (λ e. (0, omega arith, sym e)) (λ t. let p = member_place x xs t in (suc p.0, omega (arith, p.1), p.2)) (Memᴰ.cases_cons m)
 
--- a function of every entry, at a place; `List·getD-map` says it of every place, with f of the default for the default
+-- a function of every entry, at a place; `get_or-map` says it of every place, with f of the default for the default
 pub mapped_at : (f : ℕ → ℕ) (xs : List ℕ) (i : ℕ) → i < length xs → get_or (map f xs) i 0 ≡ f (get_or xs i 0)
 mapped_at f [] i h = absurd (not-suc-le-zero h)
 mapped_at f (x ∷ xs) zero h = refl

@@ -1,5 +1,6 @@
 -- The cuts of a row: which can be made, and where they move the point below the start. Assumes nothing.
 use mathlib.Core.Path.{◌≡◌, refl}
+use Rattle.std.proofs.Math.Bool.{or-true}
 use Prim.Native.Nat.{ℕ, ◌+◌, ◌-◌, ◌*◌, ◌/◌, ◌%◌, ◌≤◌, ◌<◌}
 use native.Mathlib.Nat.{mul-le-mul_right, min-eq_right, min-le_right, mod-eq-sub-div-mul, div-mul-le_self, div-le_of_le-mul, le-div_iff_mul-le}
 use native.Mathlib.Omega.{arith}
@@ -37,13 +38,13 @@ module _ (j : ℕ) (s : State) where
   unfolding advanced_right
   short_gap h = rw (le-leb s.longs s.argument h)
 
-  module _ (gap : s.argument < s.longs) {rest : ℕ} (r : rest ≡ s.long - j * s.short) where
-    -- nor is a long one below what is left of it
-    pub left_alone : s.distance < rest → nearest s ≡ advanced_right j s
-    unfolding advanced_right
-    left_alone h = rw (lt-leb s.longs s.argument gap, lt-ltb s.distance (s.long - j * s.short) (omega arith))
+  -- nor is it moved below what is left of a long one
+  pub left_alone : {rest : ℕ} → rest ≡ s.long - j * s.short → s.distance < rest → nearest s ≡ advanced_right j s
+  unfolding advanced_right
+  left_alone r h = rw (lt-ltb s.distance (s.long - j * s.short) (omega arith), or-true)
 
-    -- else it comes back to the highest cut that is not above the start
+  module _ (gap : s.argument < s.longs) {rest : ℕ} (r : rest ≡ s.long - j * s.short) where
+    -- in a long gap it comes back else to the highest cut that is not above the start
     pub moved : rest ≤ s.distance → highest_cut j s ≡ advanced_right j s
     unfolding advanced_right
     moved h = rw (lt-leb s.longs s.argument gap, le-ltb s.distance (s.long - j * s.short) (omega arith))

@@ -43,7 +43,7 @@ unfolding cut_state
 cut_holds s false t p j fits = unfold advanced_left in cut_even p j fits
 cut_holds s true t p j fits =
     by_cases (dec_lt t.argument t.longs)
-    (λ l. by_cases (dec_lt t.distance (t.long - j * t.short)) (λ h. rw (← left_alone j t l refl h) (stay_odd p j fits (λ _. h)))
+    (λ l. by_cases (dec_lt t.distance (t.long - j * t.short)) (λ h. rw (← left_alone j t refl h) (stay_odd p j fits (λ _. h)))
     (λ h. rw (← moved j t l refl (omega arith)) (unfold highest_cut in move_odd p j fits l (omega arith))))
     (λ l. rw (← short_gap j t (omega arith)) (stay_odd p j fits (λ h. absurd (l h))))
 

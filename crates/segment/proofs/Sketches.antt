@@ -115,7 +115,7 @@ module _ {s : Segment} {t : State} (r : Running regular s true t) where
       by_cases (dec_lt t.argument t.longs)
       (λ g. rw (lt-ltb t.argument t.longs g)
       (by_cases (dec_lt t.distance left)
-      (λ h. rw (← left_alone (all_cuts t) t g refl h) (kept_distance h))
+      (λ h. rw (← left_alone (all_cuts t) t refl h) (kept_distance h))
       (λ h. let l : left ≤ t.distance = omega arith in
       rw (← moved (all_cuts t) t g refl l, ← by_division (all_cuts t) t refl) (less_distance l))))
       (λ g. let l : t.longs ≤ t.argument = omega arith in rw (le-ltb t.argument t.longs l, ← short_gap (all_cuts t) t l))

@@ -1,7 +1,7 @@
 -- `expansion::fill` meets its contract.
 -- The loop's invariant: of each column the rows before `row` are written, and those from the loop's remainders and denominators on are still to
 -- come. The measure is the remainder, which falls. Assumes nothing.
-use native.Mathlib.Nat.{pos_of_ne-zero, mod-lt}
+use native.Mathlib.Nat.{mod-lt}
 use native.Mathlib.Omega.{arith}
 use Rattle.expansion.proofs.Recurrences.{kept_next, within}
 use Rattle.expansion.proofs.Filling.{start, write_row, write_last}
@@ -12,17 +12,17 @@ loop-remainder-init c = start c.requires.0 c.requires.1
 
 pub overflow_mul-next : goal.overflow_mul-next
 overflow_mul-next c =
-    let h = within (kept_next c.loop-remainder.invariant.kept (pos_of_ne-zero c.loop-remainder-test.true)) in omega arith
+    let h = within (kept_next c.loop-remainder.invariant.kept (omega (arith, c.loop-remainder-test.true))) in omega arith
 
 pub overflow_add-next : goal.overflow_add-next
 overflow_add-next c =
-    let h = within (kept_next c.loop-remainder.invariant.kept (pos_of_ne-zero c.loop-remainder-test.true)) in omega arith
+    let h = within (kept_next c.loop-remainder.invariant.kept (omega (arith, c.loop-remainder-test.true))) in omega arith
 
 pub loop-remainder-smaller : goal.loop-remainder-smaller
-loop-remainder-smaller c = mod-lt c.loop-remainder.before (pos_of_ne-zero c.loop-remainder-test.true)
+loop-remainder-smaller c = mod-lt c.loop-remainder.before (omega (arith, c.loop-remainder-test.true))
 
 pub loop-remainder-preserved : goal.loop-remainder-preserved
-loop-remainder-preserved c = write_row c.loop-remainder.invariant (pos_of_ne-zero c.loop-remainder-test.true)
+loop-remainder-preserved c = write_row c.loop-remainder.invariant (omega (arith, c.loop-remainder-test.true))
 
 pub returns : goal.returns
 returns c = write_last c.loop-remainder.invariant c.loop-remainder-test.false

@@ -4,7 +4,7 @@ use Rattle.range.proofs.Cases.{at_start, ordered, unordered, crossed}
 use Rattle.range.proofs.locate.Goals as goal
 
 pub returns-then-hi-lo : goal.returns-then-hi-lo
-returns-then-hi-lo c = at_start (crossed _ _ _ c.if-hi-lo.true)
+returns-then-hi-lo c = at_start (crossed _ _ _ (omega (arith, c.if-hi-lo.true)))
 
 pub overflow_sub-result : goal.overflow_sub-result
 overflow_sub-result c =
