@@ -590,8 +590,9 @@ fn late_ends(program: &str) -> Result<Tally, String> {
     Ok(Tally::of(&cases))
 }
 
-/// A write that fails is not reported: the program ends as ever where the output is full or closed, and where nobody reads it, whether
-/// or not the signal for that is ignored when it starts: Rattle's runtime ignores it.
+/// A write that fails is not reported: the program ends as ever where the output is full or closed, and
+/// where nobody reads it, whether or not the signal for that is ignored when it starts: Rattle's runtime
+/// ignores it.
 fn unwritable_output(program: &str) -> Result<Tally, String> {
     let moved_list = Domain { origin: LARGEST_ORIGIN, ..LONGEST_LIST };
     let texts = [J.text(), LONGEST_LIST.text(), moved_list.text(), LONGEST.text(), String::new()];

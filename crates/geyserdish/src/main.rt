@@ -16,7 +16,8 @@ fn main(rt: HostRuntime) {
     let _ = rt.stdout().write_all(&output[..printed]);
 }
 
-// Reads until the buffer is full, the input ends or a read fails, and answers how many bytes it put at the front of the buffer.
+// Reads until the buffer is full, the input ends or a read fails, and answers how many bytes it put
+// at the front of the buffer.
 fn read_front<R: Read>(input: &mut R, buffer: &mut [u8]) -> usize
     ensures { result ≤ length buffer.new }
 {

@@ -1,4 +1,5 @@
--- `arc::fine_verdict` meets its contract: the search never refuses an arc within the bounds. Assumes nothing.
+-- `arc::fine_verdict` meets its contract: the search never refuses an arc within the bounds.
+-- Assumes nothing.
 use Rattle.std.proofs.Common.{sym, ◌∙◌, ap, not}
 use Rattle.arc.proofs.Refusals.{test_passed, test_failed}
 use Rattle.arc.proofs.Coverings.{fine_unrefused, fine_verdict, never_cleared, verdict_within}

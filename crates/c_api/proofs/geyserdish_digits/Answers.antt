@@ -1,4 +1,5 @@
--- `c_api::geyserdish_digits` meets its contract: it hands over what `digits` answers. Assumes nothing.
+-- `c_api::geyserdish_digits` meets its contract: it hands over what `digits` answers. Assumes
+-- nothing.
 use Rattle.std.proofs.Common.{[]}
 use Rattle.c_api.proofs.Memory.{digits_refused, digits_answered}
 use Rattle.c_api.proofs.geyserdish_digits.Goals as goal

@@ -1,4 +1,5 @@
--- `c_api::geyserdish_divide` meets its contract: it hands over what `divide` answers. Assumes nothing.
+-- `c_api::geyserdish_divide` meets its contract: it hands over what `divide` answers. Assumes
+-- nothing.
 use Rattle.std.proofs.Common.{sym, ◌∙◌}
 use Rattle.c_api.proofs.Memory.{number_refused, number_answered}
 use Rattle.c_api.proofs.geyserdish_divide.Goals as goal

@@ -1,4 +1,5 @@
--- `c_api::geyserdish_expand` meets its contract: it hands over what `expand` answers. Assumes nothing.
+-- `c_api::geyserdish_expand` meets its contract: it hands over what `expand` answers. Assumes
+-- nothing.
 use Rattle.c_api.proofs.Memory.{refused, answered}
 use Rattle.c_api.proofs.geyserdish_expand.Goals as goal
 

@@ -1,4 +1,5 @@
--- `c_api::geyserdish_fine_search` meets its contract: it hands over what `fine_search` answers. Assumes nothing.
+-- `c_api::geyserdish_fine_search` meets its contract: it hands over what `fine_search` answers.
+-- Assumes nothing.
 use Rattle.std.proofs.Common.{sym, ◌∙◌}
 use Rattle.c_api.proofs.Memory.{fine_refused, fine_shown}
 use Rattle.c_api.proofs.geyserdish_fine_search.Goals as goal

@@ -1,4 +1,5 @@
--- `c_api::geyserdish_regular_search` meets its contract: it hands over what `regular_search` answers. Assumes nothing.
+-- `c_api::geyserdish_regular_search` meets its contract: it hands over what `regular_search`
+-- answers. Assumes nothing.
 use Rattle.std.proofs.Common.{sym, ◌∙◌}
 use Rattle.c_api.proofs.Memory.{regular_refused, regular_shown}
 use Rattle.c_api.proofs.geyserdish_regular_search.Goals as goal

@@ -1,4 +1,5 @@
--- `c_api::geyserdish_scan_segment` meets its contract: it hands over what `scan_segment` answers. Assumes nothing.
+-- `c_api::geyserdish_scan_segment` meets its contract: it hands over what `scan_segment` answers.
+-- Assumes nothing.
 use Rattle.std.proofs.Common.{sym, ◌∙◌}
 use Rattle.c_api.proofs.Memory.{scan_refused, scan_listed}
 use Rattle.c_api.proofs.geyserdish_scan_segment.Goals as goal

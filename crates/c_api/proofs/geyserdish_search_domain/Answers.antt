@@ -1,4 +1,5 @@
--- `c_api::geyserdish_search_domain` meets its contract: it hands over what `search_domain` answers. Assumes nothing.
+-- `c_api::geyserdish_search_domain` meets its contract: it hands over what `search_domain` answers.
+-- Assumes nothing.
 use Rattle.std.proofs.Common.{sym, ◌∙◌}
 use mir.Facts.{to_z-of_z}
 use Rattle.c_api.proofs.Memory.{domain_refused, domain_searched}

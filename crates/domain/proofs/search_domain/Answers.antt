@@ -1,93 +1,79 @@
 -- `domain::search_domain` meets its contract: it goes from phase to phase. Assumes nothing.
-use Rattle.std.proofs.Common.{sym, ◌∙◌, arith, rules, ◌≡◌}
+use Rattle.std.proofs.Common.{sym, ◌∙◌, arith, rules, ◌≤◌, ◌≡◌, ◌^◌, ℕ}
 use mir.Facts.{to_z-of_z}
 use mir.Syntax.{w64}
-use mir.Val.{SFits}
-use Rattle.arc.specs.Arc.{refusal}
+use mir.Val.{SFits, to_z, of_z}
+use Rattle.arc.specs.Arc.{asked, refusal}
+use Rattle.domain.specs.declared.Domain.{Domain}
 use Rattle.domain.specs.Domain.{parabola_of, Searchable, Accepted}
 use Rattle.domain.proofs.Answers.{searchable_iff, searched_requires, never_cleared, domain_refused, origin_refused, domain_cleared, domain_searched}
 use Rattle.domain.proofs.search_domain.Goals as goal
 
+module _ (d : Domain) {n : ℕ} (e : n ≡ refusal (asked d.modulus d.value d.slope (to_z w64 (of_z w64 d.curve)) d.count d.window)) (fits : SFits w64 d.curve) where
+  -- the number is that of the domain's parabola, whose curve is read as it is
+  number_is : n ≡ refusal (parabola_of d)
+  number_is = rw (to_z-of_z fits) at e
+
+  -- where that does not refuse
+  searchable : n ≡ 0 → Searchable d
+  searchable z = (searchable_iff d).0 (sym number_is ∙ z)
+
+  -- nor the origin
+  taken_on : n ≡ 0 → d.origin ≤ 2 ^ 52 → Accepted d
+  taken_on z h = record { searchable = searchable z; origin_within = h }
+
 pub returns-then-number-ne0 : goal.returns-then-number-ne0
 returns-then-number-ne0 c =
-    let number : c.refuse-number.result ≡ refusal (parabola_of c.args.domain) =
-    let fits : SFits w64 c.args.domain.curve = search rules in rw (to_z-of_z fits) at c.refuse-number.ensures in
-    let l = domain_refused c.args.domain c.args.marks.now c.args.list.now c.args.values.now number c.if-number-ne0.true in
+    let l = domain_refused c.args.domain c.args.marks.now c.args.list.now c.args.values.now (number_is c.args.domain c.refuse-number.ensures (search rules)) c.if-number-ne0.true in
     record { value = l.0; marks_after = l.1.0; list_after = l.1.1.0; values_after = l.1.1.1 }
 
 pub returns-then-domain-gt-LARGEST_ORIGIN : goal.returns-then-domain-gt-LARGEST_ORIGIN
 returns-then-domain-gt-LARGEST_ORIGIN c =
-    let number : c.refuse-number.result ≡ refusal (parabola_of c.args.domain) =
-    let fits : SFits w64 c.args.domain.curve = search rules in rw (to_z-of_z fits) at c.refuse-number.ensures in
-    let searchable : Searchable c.args.domain = (searchable_iff c.args.domain).0 (sym number ∙ c.if-number-ne0.false) in
-    let l = origin_refused c.args.domain c.args.marks.now c.args.list.now c.args.values.now searchable c.if-domain-gt-LARGEST_ORIGIN.true in
+    let l = origin_refused c.args.domain c.args.marks.now c.args.list.now c.args.values.now (searchable c.args.domain c.refuse-number.ensures (search rules) c.if-number-ne0.false) c.if-domain-gt-LARGEST_ORIGIN.true in
     record { value = l.0; marks_after = l.1.0; list_after = l.1.1.0; values_after = l.1.1.1 }
 
 pub centred-arc-requires : goal.centred-arc-requires
-centred-arc-requires c =
-    let number : c.refuse-number.result ≡ refusal (parabola_of c.args.domain) =
-    let fits : SFits w64 c.args.domain.curve = search rules in rw (to_z-of_z fits) at c.refuse-number.ensures in
-    let searchable : Searchable c.args.domain = (searchable_iff c.args.domain).0 (sym number ∙ c.if-number-ne0.false) in
-    searchable
+centred-arc-requires c = searchable c.args.domain c.refuse-number.ensures (search rules) c.if-number-ne0.false
 
 pub overflow_sub-raised_by : goal.overflow_sub-raised_by
-overflow_sub-raised_by c =
-    let number : c.refuse-number.result ≡ refusal (parabola_of c.args.domain) =
-    let fits : SFits w64 c.args.domain.curve = search rules in rw (to_z-of_z fits) at c.refuse-number.ensures in
-    let searchable : Searchable c.args.domain = (searchable_iff c.args.domain).0 (sym number ∙ c.if-number-ne0.false) in
-    searchable.window_low
+overflow_sub-raised_by c = (searchable c.args.domain c.refuse-number.ensures (search rules) c.if-number-ne0.false).window_low
 
 pub overflow_sub-domain : goal.overflow_sub-domain
-overflow_sub-domain c =
-    let number : c.refuse-number.result ≡ refusal (parabola_of c.args.domain) =
-    let fits : SFits w64 c.args.domain.curve = search rules in rw (to_z-of_z fits) at c.refuse-number.ensures in
-    let searchable : Searchable c.args.domain = (searchable_iff c.args.domain).0 (sym number ∙ c.if-number-ne0.false) in
-    omega (arith, searchable.unit_within)
+overflow_sub-domain c = let s = searchable c.args.domain c.refuse-number.ensures (search rules) c.if-number-ne0.false in omega (arith, s.unit_within)
 
 pub search_parts-requires : goal.search_parts-requires
 search_parts-requires c =
-    let number : c.refuse-number.result ≡ refusal (parabola_of c.args.domain) =
-    let fits : SFits w64 c.args.domain.curve = search rules in rw (to_z-of_z fits) at c.refuse-number.ensures in
-    let searchable : Searchable c.args.domain = (searchable_iff c.args.domain).0 (sym number ∙ c.if-number-ne0.false) in
-    let taken : Accepted c.args.domain = record { searchable = searchable; origin_within = c.if-domain-gt-LARGEST_ORIGIN.false } in
+    let taken = taken_on c.args.domain c.refuse-number.ensures (search rules) c.if-number-ne0.false c.if-domain-gt-LARGEST_ORIGIN.false in
     let r = searched_requires c.args.domain c.args.marks.now c.args.list.now c.args.values.now taken c.centred-arc.ensures
     (never_cleared c.args.domain c.args.marks.now c.args.list.now c.args.values.now taken c.centred-arc.ensures c.if-arc-domain.true) in
     record { in_range = r.0; not_cleared = r.1.0; origin_bound = r.1.1.0; raise_below = r.1.1.1 }
 
 pub returns-then-arc-domain : goal.returns-then-arc-domain
 returns-then-arc-domain c =
-    let number : c.refuse-number.result ≡ refusal (parabola_of c.args.domain) =
-    let fits : SFits w64 c.args.domain.curve = search rules in rw (to_z-of_z fits) at c.refuse-number.ensures in
-    let searchable : Searchable c.args.domain = (searchable_iff c.args.domain).0 (sym number ∙ c.if-number-ne0.false) in
-    let taken : Accepted c.args.domain = record { searchable = searchable; origin_within = c.if-domain-gt-LARGEST_ORIGIN.false } in
     let s = c.search_parts.ensures in
-    let l = domain_searched c.args.domain c.args.marks.now c.args.list.now c.args.values.now taken c.centred-arc.ensures (s.value, (s.marks_after, (s.list_after, s.values_after))) in
+    let l = domain_searched c.args.domain c.args.marks.now c.args.list.now c.args.values.now
+    (taken_on c.args.domain c.refuse-number.ensures (search rules) c.if-number-ne0.false c.if-domain-gt-LARGEST_ORIGIN.false)
+    c.centred-arc.ensures (s.value, (s.marks_after, (s.list_after, s.values_after))) in
     record { value = l.0; marks_after = l.1.0; list_after = l.1.1.0; values_after = l.1.1.1 }
 
 pub returns-in-Clear : goal.returns-in-Clear
 returns-in-Clear c =
-    let number : c.refuse-number.result ≡ refusal (parabola_of c.args.domain) =
-    let fits : SFits w64 c.args.domain.curve = search rules in rw (to_z-of_z fits) at c.refuse-number.ensures in
-    let searchable : Searchable c.args.domain = (searchable_iff c.args.domain).0 (sym number ∙ c.if-number-ne0.false) in
-    let taken : Accepted c.args.domain = record { searchable = searchable; origin_within = c.if-domain-gt-LARGEST_ORIGIN.false } in
-    let l = domain_cleared c.args.domain c.args.marks.now c.args.list.now c.args.values.now taken c.centred-arc.ensures (sym c.regular_verdict.ensures ∙ c.in-Clear.is) in
+    let l = domain_cleared c.args.domain c.args.marks.now c.args.list.now c.args.values.now
+    (taken_on c.args.domain c.refuse-number.ensures (search rules) c.if-number-ne0.false c.if-domain-gt-LARGEST_ORIGIN.false)
+    c.centred-arc.ensures (sym c.regular_verdict.ensures ∙ c.in-Clear.is) in
     record { value = l.0; marks_after = l.1.0; list_after = l.1.1.0; values_after = l.1.1.1 }
 
 pub search_parts-requires-in-Possible : goal.search_parts-requires-in-Possible
 search_parts-requires-in-Possible c =
-    let number : c.refuse-number.result ≡ refusal (parabola_of c.args.domain) =
-    let fits : SFits w64 c.args.domain.curve = search rules in rw (to_z-of_z fits) at c.refuse-number.ensures in
-    let searchable : Searchable c.args.domain = (searchable_iff c.args.domain).0 (sym number ∙ c.if-number-ne0.false) in
-    let taken : Accepted c.args.domain = record { searchable = searchable; origin_within = c.if-domain-gt-LARGEST_ORIGIN.false } in
-    let r = searched_requires c.args.domain c.args.marks.now c.args.list.now c.args.values.now taken c.centred-arc.ensures (sym c.regular_verdict.ensures ∙ c.in-Possible.is) in
+    let r = searched_requires c.args.domain c.args.marks.now c.args.list.now c.args.values.now
+    (taken_on c.args.domain c.refuse-number.ensures (search rules) c.if-number-ne0.false c.if-domain-gt-LARGEST_ORIGIN.false)
+    c.centred-arc.ensures (sym c.regular_verdict.ensures ∙ c.in-Possible.is) in
     record { in_range = r.0; not_cleared = r.1.0; origin_bound = r.1.1.0; raise_below = r.1.1.1 }
 
 pub returns-in-Possible : goal.returns-in-Possible
 returns-in-Possible c =
-    let number : c.refuse-number.result ≡ refusal (parabola_of c.args.domain) =
-    let fits : SFits w64 c.args.domain.curve = search rules in rw (to_z-of_z fits) at c.refuse-number.ensures in
-    let searchable : Searchable c.args.domain = (searchable_iff c.args.domain).0 (sym number ∙ c.if-number-ne0.false) in
-    let taken : Accepted c.args.domain = record { searchable = searchable; origin_within = c.if-domain-gt-LARGEST_ORIGIN.false } in
     let s = c.search_parts-in-Possible.ensures in
-    let l = domain_searched c.args.domain c.args.marks.now c.args.list.now c.args.values.now taken c.centred-arc.ensures (s.value, (s.marks_after, (s.list_after, s.values_after))) in
+    let l = domain_searched c.args.domain c.args.marks.now c.args.list.now c.args.values.now
+    (taken_on c.args.domain c.refuse-number.ensures (search rules) c.if-number-ne0.false c.if-domain-gt-LARGEST_ORIGIN.false)
+    c.centred-arc.ensures (s.value, (s.marks_after, (s.list_after, s.values_after))) in
     record { value = l.0; marks_after = l.1.0; list_after = l.1.1.0; values_after = l.1.1.1 }

@@ -1,36 +1,46 @@
 -- `domain::search_parts` meets its contract. Assumes nothing.
-use Rattle.std.proofs.Common.{ap, arith, ◌≡◌, length}
-use Rattle.parabola.specs.Parabola.{hard_list}
+use Rattle.std.proofs.Common.{ap, arith, ◌≤◌, ◌≡◌, ℕ, length}
+use Rattle.std.proofs.Common.{min}
+use Rattle.parabola.specs.Parabola.{Parabola, hard_list}
 use Rattle.arc.specs.Arc.{parabola}
-use Rattle.domain.specs.Phases.{report}
+use Rattle.domain.specs.Phases.{hard_counts, report}
 use Rattle.domain.specs.declared.phases.Report.{Report}
 use Rattle.domain.proofs.Answers.{Room, parts_refused, parts_searched}
 use Rattle.domain.proofs.search_parts.Goals as goal
 
+-- what the parts have
+module _ (p : Parabola) {r : Report} (e : r ≡ report p) where
+  total_is : r.total ≡ length (hard_list p)
+  unfolding report
+  total_is = ap (λ (r : Report). r.total) e
+
+  counts_are : r.hard ≡ hard_counts p
+  unfolding report
+  counts_are = ap (λ (r : Report). r.hard) e
+
+  -- there is room for it
+  enough : {places m n : ℕ} → places ≡ min m n → r.total ≤ places → Room (hard_list p) m n
+  enough f h = (omega (arith, f, h, total_is), omega (arith, f, h, total_is))
+
 pub returns-then-places-report : goal.returns-then-places-report
 returns-then-places-report c =
-    let total : c.examine_parts-report.result.total ≡ length (hard_list (parabola c.args.arc)) = unfold report in ap (λ (r : Report). r.total) c.examine_parts-report.ensures in
-    let l = parts_refused _ _ _ _ _ _ (omega (arith, c.if-places-report.true, c.min-places.ensures, total)) in
+    let l = parts_refused _ _ _ _ _ _ (omega (arith, c.if-places-report.true, c.min-places.ensures, total_is (parabola c.args.arc) c.examine_parts-report.ensures)) in
     record { value = l.0; marks_after = l.1.0; list_after = l.1.1.0; values_after = l.1.1.1 }
 
 pub list_parts-requires : goal.list_parts-requires
 list_parts-requires c =
-    let total : c.examine_parts-report.result.total ≡ length (hard_list (parabola c.args.arc)) = unfold report in ap (λ (r : Report). r.total) c.examine_parts-report.ensures in
-    let room : Room (hard_list (parabola c.args.arc)) (length c.args.list.now) (length c.args.values.now) =
-    (omega (arith, c.if-places-report.false, c.min-places.ensures, total), omega (arith, c.if-places-report.false, c.min-places.ensures, total)) in
+    let room = enough (parabola c.args.arc) c.examine_parts-report.ensures c.min-places.ensures c.if-places-report.false in
     record {
       in_range = c.requires.in_range;
       origin_bound = c.requires.origin_bound;
       raise_below = c.requires.raise_below;
-      hard_counted = unfold report in ap (λ (r : Report). r.hard) c.examine_parts-report.ensures;
+      hard_counted = counts_are (parabola c.args.arc) c.examine_parts-report.ensures;
       list_room = room.0;
       values_room = room.1;
     }
 
 pub returns : goal.returns
 returns c =
-    let total : c.examine_parts-report.result.total ≡ length (hard_list (parabola c.args.arc)) = unfold report in ap (λ (r : Report). r.total) c.examine_parts-report.ensures in
-    let room : Room (hard_list (parabola c.args.arc)) (length c.args.list.now) (length c.args.values.now) =
-    (omega (arith, c.if-places-report.false, c.min-places.ensures, total), omega (arith, c.if-places-report.false, c.min-places.ensures, total)) in
-    let l = parts_searched _ _ _ _ _ _ c.requires.not_cleared room c.examine_parts-report.ensures (c.list_parts.ensures.list_after, c.list_parts.ensures.values_after) in
+    let l = parts_searched _ _ _ _ _ _ c.requires.not_cleared (enough (parabola c.args.arc) c.examine_parts-report.ensures c.min-places.ensures c.if-places-report.false)
+    c.examine_parts-report.ensures (c.list_parts.ensures.list_after, c.list_parts.ensures.values_after) in
     record { value = l.0; marks_after = l.1.0; list_after = l.1.1.0; values_after = l.1.1.1 }

@@ -1,4 +1,5 @@
--- `expansion::expand` meets its contract: a refusal, or the table of an accepted modulus and step. Assumes nothing.
+-- `expansion::expand` meets its contract: a refusal, or the table of an accepted modulus and step.
+-- Assumes nothing.
 use mathlib.Core.Path.{sym, ap, ◌∙◌}
 use Rattle.expansion.specs.declared.Table.{Table}
 use Rattle.expansion.proofs.Answers.{accepted, answer_refused, answer_accepted}

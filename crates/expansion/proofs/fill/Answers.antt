@@ -1,6 +1,4 @@
--- `expansion::fill` meets its contract.
--- The loop's invariant: of each column the rows before `row` are written, and those from the loop's remainders and denominators on are still to
--- come. The measure is the remainder, which falls. Assumes nothing.
+-- `expansion::fill` meets its contract. Assumes nothing.
 use native.Mathlib.Nat.{mod-lt}
 use native.Mathlib.Omega.{arith}
 use Rattle.expansion.proofs.Recurrences.{kept_next, within}

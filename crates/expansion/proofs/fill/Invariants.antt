@@ -1,6 +1,7 @@
 -- `expansion::fill` meets its contract.
--- The loop's invariant: of each column the rows before `row` are written, and those from the loop's remainders and denominators on are still to
--- come. The measure is the remainder, which falls. Assumes nothing.
+-- The loop's invariant: of each column the rows before `row` are written, and those from the loop's
+-- remainders and denominators on are still to come. The measure is the remainder, which falls.
+-- Assumes nothing.
 use Rattle.expansion.proofs.Filling.{columns, Filled}
 use Rattle.expansion.proofs.fill.Given as goal
 

@@ -1,4 +1,5 @@
--- `expansion::refuse` meets its contract: each return is the first condition that does not hold, or none. Assumes nothing.
+-- `expansion::refuse` meets its contract: each return is the first condition that does not hold, or
+-- none. Assumes nothing.
 use mathlib.Core.Path.{refl, sym}
 use mathlib.Core.Logic.{inl, inr}
 use native.Mathlib.Omega.{arith}

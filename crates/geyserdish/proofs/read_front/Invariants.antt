@@ -1,5 +1,6 @@
 -- `geyserdish::read_front` meets its contract.
--- The loop's invariant: no more was read than the buffer has places. The measure is the number of places that are left. Assumes nothing.
+-- The loop's invariant: no more was read than the buffer has places. The measure is the number of
+-- places that are left. Assumes nothing.
 use Rattle.std.proofs.Common.{length, ◌-◌, ◌≤◌}
 use Rattle.geyserdish.proofs.read_front.Given as goal
 

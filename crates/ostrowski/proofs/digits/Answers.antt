@@ -1,4 +1,5 @@
--- `ostrowski::digits` meets its contract: a refusal, or the digits of an argument below the period. Assumes nothing.
+-- `ostrowski::digits` meets its contract: a refusal, or the digits of an argument below the period.
+-- Assumes nothing.
 use mathlib.Core.Path.{refl, sym, ◌∙◌}
 use native.Mathlib.Omega.{arith}
 use Rattle.ostrowski.proofs.Taking.{tabled, few_rows, period_read, taking_first, taking_next, denominator_positive, none_written, digit_written, digits_written}

@@ -1,6 +1,6 @@
 -- `ostrowski::digits` meets its contract.
--- The loop's invariant: what is left of the argument is the sum of its digits below `row`, and the array has the digits from `row` on. The measure is the row.
--- Assumes nothing.
+-- The loop's invariant: what is left of the argument is the sum of its digits below `row`, and the
+-- array has the digits from `row` on. The measure is the row. Assumes nothing.
 use Rattle.numbers.proofs.Buffers.{AgreesFrom}
 use Rattle.ostrowski.proofs.Taking.{Taking, goal as digits_goal}
 use Rattle.ostrowski.proofs.digits.Given as goal

@@ -1,4 +1,5 @@
--- `ostrowski::divide` meets its contract: a refusal, or the difference of the two sums. Assumes nothing.
+-- `ostrowski::divide` meets its contract: a refusal, or the difference of the two sums. Assumes
+-- nothing.
 use mathlib.Core.Path.{sym, ◌∙◌, ap}
 use native.Mathlib.Omega.{arith}
 use Rattle.ostrowski.specs.declared.NumberAnswer.TheVariants.{Found}

@@ -1,6 +1,7 @@
 -- `ostrowski::divide` meets its contract.
--- The loop's invariant: at `row`, drawn as the remainders and denominators, the target is divided so far, into the rest and the two sums. The measure is the remainder, which
--- falls. Assumes nothing.
+-- The loop's invariant: at `row`, drawn as the remainders and denominators, the target is divided
+-- so far, into the rest and the two sums. The measure is the remainder, which falls. Assumes
+-- nothing.
 use Rattle.ostrowski.proofs.Dividing.{Dividing}
 use Rattle.ostrowski.proofs.divide.Given as goal
 

@@ -1,6 +1,6 @@
 -- `ostrowski::residue` meets its contract.
--- The loop's invariant: what is left of the argument is the sum of its digits below `row`, and the residue is what the rows from `row` on come to. The measure is the
--- row. Assumes nothing.
+-- The loop's invariant: what is left of the argument is the sum of its digits below `row`, and the
+-- residue is what the rows from `row` on come to. The measure is the row. Assumes nothing.
 use Rattle.ostrowski.proofs.Taking.{Reducing}
 use Rattle.ostrowski.proofs.residue.Given as goal
 

@@ -1,5 +1,6 @@
 -- `segment::fine_end` meets its contract.
--- The loop's invariant: the search is not done after so many steps, and stands at an even row. The measure is what is left of the budget. Assumes nothing.
+-- The loop's invariant: the search is not done after so many steps, and stands at an even row. The
+-- measure is what is left of the budget. Assumes nothing.
 use Rattle.std.proofs.Common.{◌-◌, false}
 use Rattle.expansion.specs.Reached.Search.{fine}
 use Rattle.segment.specs.Accepted.{asked}

@@ -1,4 +1,5 @@
--- `segment::fine_search` meets its contract: a refusal, or what the state shows in which the search ends. Assumes nothing.
+-- `segment::fine_search` meets its contract: a refusal, or what the state shows in which the search
+-- ends. Assumes nothing.
 use Rattle.std.proofs.Common.{sym, ◌∙◌, arith, rules}
 use Rattle.expansion.specs.Reached.Search.{fine}
 use Rattle.segment.proofs.Answers.{accepted, points_few, fine_refused, fine_answered}

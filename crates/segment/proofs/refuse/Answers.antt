@@ -1,4 +1,5 @@
--- `segment::refuse` meets its contract: each return is the first condition that does not hold, or none. Assumes nothing.
+-- `segment::refuse` meets its contract: each return is the first condition that does not hold, or
+-- none. Assumes nothing.
 use Rattle.std.proofs.Common.{refl, sym, ◌∙◌, arith, inl, inr, ◌<◌, ◌≡◌, ℕ}
 use Rattle.numbers.specs.Unit.{Ranged}
 use Rattle.numbers.proofs.Checklists.{refused, accepted, first_of_two}

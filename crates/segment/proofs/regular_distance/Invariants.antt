@@ -1,5 +1,6 @@
 -- `segment::regular_distance` meets its contract.
--- The loop's invariant: a sketch of a state of the regular search that is not done, at an even row. The measure is what is left of the budget. Assumes nothing.
+-- The loop's invariant: a sketch of a state of the regular search that is not done, at an even row.
+-- The measure is what is left of the budget. Assumes nothing.
 use Rattle.std.proofs.Common.{◌-◌, false}
 use Rattle.segment.specs.Accepted.{asked}
 use Rattle.segment.proofs.Sketches.{Sketched}

@@ -1,12 +1,18 @@
 -- `segment::regular_end` meets its contract. Assumes nothing.
-use Rattle.std.proofs.Common.{arith, true, false}
+use Rattle.std.proofs.Common.{◌≡◌, arith, true, false}
 use Rattle.expansion.specs.Reached.Search.{regular}
-use Rattle.segment.specs.Accepted.{asked}
-use Rattle.segment.specs.State.{next}
+use Rattle.geometry.specs.Segment.{Segment}
+use Rattle.segment.specs.State.{next, regular_next}
+use Rattle.segment.specs.declared.state.State.{State}
 use Rattle.segment.proofs.Invariant.{row_few}
 use Rattle.segment.proofs.Steps.{unreached, steppable, regular_index}
 use Rattle.segment.proofs.Stepping.{At, first_runs, first_done, running, goes_on, is_done}
 use Rattle.segment.proofs.regular_end.Goals as goal
+
+-- the search runs on after the even row
+at_odd : {s : Segment} {t u : State} → At regular s false t → u ≡ regular_next false s.count t → u.done ≡ false → At regular s true u
+unfolding next
+at_odd p e d = goes_on p e d
 
 pub returns-then-state : goal.returns-then-state
 returns-then-state c = first_done regular c.requires c.first-state.ensures c.if-state.true
@@ -22,16 +28,12 @@ returns-then-state-2 c = is_done c.loop-state.invariant (unfold next in c.regula
 
 pub regular_odd-state-requires : goal.regular_odd-state-requires
 regular_odd-state-requires c =
-    let o : At regular (asked c.args.modulus c.args.step c.args.start c.args.count 1) true c.regular_even-state.result =
-    goes_on c.loop-state.invariant (unfold next in c.regular_even-state.ensures) c.if-state-2.false in
-    let r = running o in
+    let r = running (at_odd c.loop-state.invariant c.regular_even-state.ensures c.if-state-2.false) in
     record { steppable = steppable r; unreached = unreached r }
 
 pub returns-then-state-3 : goal.returns-then-state-3
 returns-then-state-3 c =
-    let o : At regular (asked c.args.modulus c.args.step c.args.start c.args.count 1) true c.regular_even-state.result =
-    goes_on c.loop-state.invariant (unfold next in c.regular_even-state.ensures) c.if-state-2.false in
-    is_done o (unfold next in c.regular_odd-state.ensures)
+    is_done (at_odd c.loop-state.invariant c.regular_even-state.ensures c.if-state-2.false) (unfold next in c.regular_odd-state.ensures)
     c.if-state-3.true
 
 pub loop-state-smaller : goal.loop-state-smaller
@@ -45,9 +47,7 @@ loop-state-smaller c =
 
 pub loop-state-preserved : goal.loop-state-preserved
 loop-state-preserved c =
-    let o : At regular (asked c.args.modulus c.args.step c.args.start c.args.count 1) true c.regular_even-state.result =
-    goes_on c.loop-state.invariant (unfold next in c.regular_even-state.ensures) c.if-state-2.false in
-    goes_on o (unfold next in c.regular_odd-state.ensures)
+    goes_on (at_odd c.loop-state.invariant c.regular_even-state.ensures c.if-state-2.false) (unfold next in c.regular_odd-state.ensures)
     c.if-state-3.false
 
 -- the budget is never spent

@@ -1,4 +1,5 @@
--- `segment::regular_search` meets its contract: a refusal, or what the state shows in which the search ends. Assumes nothing.
+-- `segment::regular_search` meets its contract: a refusal, or what the state shows in which the
+-- search ends. Assumes nothing.
 use Rattle.std.proofs.Common.{sym, ◌∙◌, arith, rules}
 use Rattle.expansion.specs.Reached.Search.{regular}
 use Rattle.segment.proofs.Answers.{accepted, points_few, regular_refused, regular_answered}

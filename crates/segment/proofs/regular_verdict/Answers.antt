@@ -1,4 +1,5 @@
--- `segment::regular_verdict` meets its contract: possible where the search is refused, else the verdict by the distance. Assumes nothing.
+-- `segment::regular_verdict` meets its contract: possible where the search is refused, else the
+-- verdict by the distance. Assumes nothing.
 use Rattle.std.proofs.Common.{sym, ◌∙◌, arith}
 use Rattle.segment.proofs.Answers.{accepted, verdict_refused, verdict_answered}
 use Rattle.segment.proofs.regular_verdict.Goals as goal

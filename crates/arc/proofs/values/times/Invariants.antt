@@ -1,5 +1,6 @@
 -- `arc::values::times` meets its contract.
--- The loop's invariant: the sum, and what is left times the double, make the product. The measure is what is left. Assumes nothing.
+-- The loop's invariant: the sum, and what is left times the double, make the product. The measure
+-- is what is left. Assumes nothing.
 use Rattle.arc.proofs.Products.{Multiplying}
 use Rattle.arc.proofs.values.times.Given as goal
 

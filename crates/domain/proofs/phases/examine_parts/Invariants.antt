@@ -1,6 +1,6 @@
 -- `domain::phases::examine_parts` meets its contract.
--- The loop's invariant: the marks of the parts before i and how many hard arguments each has are written, and added up. The measure is the number
--- of parts from i on. Assumes nothing.
+-- The loop's invariant: the marks of the parts before i and how many hard arguments each has are
+-- written, and added up. The measure is the number of parts from i on. Assumes nothing.
 use Rattle.std.proofs.Common.{◌-◌}
 use Rattle.arc.specs.Arc.{parabola}
 use Rattle.domain.proofs.Parts.{Examining}

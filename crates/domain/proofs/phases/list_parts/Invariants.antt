@@ -1,5 +1,6 @@
 -- `domain::phases::list_parts` meets its contract.
--- The loop's invariant: what the parts before i list is written, and the values beside it. The measure is the number of parts from i on. Assumes nothing.
+-- The loop's invariant: what the parts before i list is written, and the values beside it. The
+-- measure is the number of parts from i on. Assumes nothing.
 use Rattle.std.proofs.Common.{◌-◌}
 use Rattle.arc.specs.Arc.{parabola}
 use Rattle.domain.proofs.Parts.{ListingParts}

@@ -1,5 +1,6 @@
 -- `domain::scan::count_hard` meets its contract.
--- The loop's invariant: so many hard arguments are below x. The measure is the number of arguments from x on. Assumes nothing.
+-- The loop's invariant: so many hard arguments are below x. The measure is the number of arguments
+-- from x on. Assumes nothing.
 use Rattle.std.proofs.Common.{◌-◌}
 use Rattle.arc.specs.Arc.{parabola}
 use Rattle.domain.proofs.Scanning.{Counting}

@@ -1,6 +1,7 @@
 -- `domain::scan::list_all` meets its contract.
--- The invariant of the first loop: the arguments below x are written, and it and all after it are hard. Of the second: the same of the values.
--- The measures are the numbers of arguments from x on. Assumes nothing.
+-- The invariant of the first loop: the arguments below x are written, and it and all after it are
+-- hard. Of the second: the same of the values. The measures are the numbers of arguments from x on.
+-- Assumes nothing.
 use Rattle.std.proofs.Common.{◌+◌, ◌-◌, ℕ}
 use Rattle.arc.specs.Arc.{parabola}
 use Rattle.domain.proofs.Scanning.{FullColumn, FullValues}

@@ -1,6 +1,6 @@
 -- `domain::scan::list_hard` meets its contract.
--- The loop's invariant: the hard arguments below x and their values are written, and the next ones go to the place `at`. The measure is the
--- number of arguments from x on. Assumes nothing.
+-- The loop's invariant: the hard arguments below x and their values are written, and the next ones
+-- go to the place `at`. The measure is the number of arguments from x on. Assumes nothing.
 use Rattle.std.proofs.Common.{◌+◌, ◌-◌}
 use Rattle.arc.specs.Arc.{parabola}
 use Rattle.domain.proofs.Scanning.{Listing}

@@ -1,4 +1,5 @@
--- `segment::state::fine_even` meets its contract: the row that ends the search, and any other. Assumes nothing.
+-- `segment::state::fine_even` meets its contract: the row that ends the search, and any other.
+-- Assumes nothing.
 use Rattle.std.proofs.Common.{rules, false}
 use Rattle.segment.proofs.Rows.{end_step, on_cutting, on_step}
 use Rattle.segment.proofs.state.fine_even.Goals as goal
