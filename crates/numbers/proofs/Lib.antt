@@ -12,4 +12,5 @@ pub mod Selections
 pub mod Pieces
 pub mod Buffers
 pub mod Checklists
+pub mod Outcomes
 pub mod Promises

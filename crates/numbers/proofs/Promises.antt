@@ -12,6 +12,7 @@ use Rattle.numbers.specs.Sums.{sum, alternating_sum}
 use Rattle.numbers.specs.Promise.{ConditionsCorrect, SelectionCorrect, BuffersCorrect, Promised}
 use Rattle.numbers.proofs.Checklists.{refuses, accepts}
 use Rattle.numbers.proofs.Integers.{mod_below, mod_multiple}
+use Rattle.numbers.proofs.Outcomes.{refusals_correct}
 use Rattle.numbers.proofs.Selections.{filter_none, filter_hit, filter_miss}
 use Rattle.numbers.proofs.Parity.{parity_correct}
 use Rattle.numbers.proofs.Pieces.{joined_none, pieces_correct}
@@ -61,6 +62,7 @@ promised =
     record {
       conditions_are = conditions_correct;
       checklists = λ cs. record { refuses = refuses cs; accepts = accepts cs };
+      refusals = refusals_correct;
       remainders = λ z M. record { in_range = λ positive. mod_below positive z; multiple = λ positive. mod_multiple positive z };
       remainders_by_zero = λ n. (mod-zero n, omega arith);
       selections = selection_correct;

@@ -4,5 +4,6 @@ pub mod Integers
 pub mod Sums
 pub mod Parity
 pub mod Checklist
+pub mod Refusals
 pub mod Unit
 pub mod Promise

@@ -1,10 +1,13 @@
 -- What is promised of the definitions that the promises of other crates cite, and the statements on lists, pieces of a stretch, buffers and divisors that those
 -- promises make. `Promised`, at the end, is all that holds here; proofs/Promises.antt proves it.
 -- Assumes nothing: these are statements.
-use Rattle.std.specs.Prelude.{◌≡◌, Bool, true, false, ◌↔◌, ℕ, suc, ◌+◌, ◌-◌, ◌%◌, ◌^◌, ◌≤◌, ◌<◌, ℤ, pos, negsuc, ◌+ℤ◌, ◌-ℤ◌, ◌*ℤ◌, length, get_or}
+use Rattle.std.specs.Prelude.{◌≡◌, Bool, true, false, ◌↔◌, ℕ, suc, ◌+◌, ◌-◌, ◌%◌, ◌^◌, ◌≤◌, ◌<◌, ℤ, pos, negsuc, ◌+ℤ◌, ◌-ℤ◌, ◌*ℤ◌, length, get_or, map, Ok, Err}
 use mathlib.Core.List.{List, [], ◌∷◌, ◌++◌, Memᴰ}
 use Rattle.std.specs.Int.{◌∣◌}
 use Rattle.numbers.specs.Checklist.{Condition, Check, condition, check, conditions, first_failing, AllHold, RefusedBy, Numbered, unless_refused}
+use Rattle.numbers.specs.Refusals.{number_of, named, outcome, number_in}
+use Rattle.numbers.specs.declared.refusals.Refusal.{Refusal}
+use Rattle.numbers.specs.declared.refusals.Refusal.TheVariants.{Modulus, Step, Start, Count, Window, Curve, Room, Malformed, Argument, Target, Origin}
 use Rattle.numbers.specs.Integers.{◌modulo◌}
 use Rattle.numbers.specs.Lists.{filter_range, count_if, tabulate, joined, overwrite_front, place_after}
 use Rattle.numbers.specs.Parity.{is_odd}
@@ -28,6 +31,16 @@ pub record ConditionsCorrect : Type 1 where
 pub record ChecklistCorrect (cs : List Check) : Type 1 where
   pub refuses : (n : ℕ) → (first_failing cs ≡ suc n) ↔ RefusedBy (conditions cs) (suc n)
   pub accepts : Numbered (conditions cs) → (first_failing cs ≡ 0) ↔ AllHold (conditions cs)
+
+-- each of the eleven refusals has its number, and no two have the same; an answer is a refusal exactly where a number refuses, and then that one
+pub record RefusalsCorrect : Type 1 where
+  pub numbers : map number_of (Modulus ∷ Step ∷ Start ∷ Count ∷ Window ∷ Curve ∷ Room ∷ Malformed ∷ Argument ∷ Target ∷ Origin ∷ [])
+      ≡ 1 ∷ 2 ∷ 3 ∷ 4 ∷ 5 ∷ 6 ∷ 7 ∷ 8 ∷ 9 ∷ 10 ∷ 11 ∷ []
+  pub back : (r : Refusal) → named (number_of r) ≡ r
+  pub shown : {A : Type 0} (a : A) → outcome 0 a ≡ Ok a
+  pub refused : {A : Type 0} (r : Refusal) (a : A) → outcome (number_of r) a ≡ Err r
+  pub numbered : (A : Type 0) (r : Refusal) → number_in {A = A} (Err r) ≡ number_of r
+  pub unnumbered : {A : Type 0} (a : A) → number_in (Ok a) ≡ 0
 
 -- ---- integers
 
@@ -130,6 +143,7 @@ pub record BuffersCorrect : Type 1 where
 pub record Promised : Type 1 where
   pub conditions_are : ConditionsCorrect
   pub checklists : (cs : List Check) → ChecklistCorrect cs
+  pub refusals : RefusalsCorrect
   pub remainders : (z : ℤ) (M : ℕ) → RemainderCorrect z M
   -- by 0 nothing is taken off, and a negative number leaves 0
   pub remainders_by_zero : (n : ℕ) → (pos n modulo 0 ≡ n) × (negsuc n modulo 0 ≡ 0)

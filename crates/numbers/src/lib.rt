@@ -2,8 +2,12 @@
 // a partly written buffer, refusals as checklists; and five calls on numbers and integers.
 #![tactic(auto)]
 
-ghost use Rattle.std.specs.Prelude.{◌≡◌, ◌-◌, ◌%◌, min, nat_abs};
+ghost use Rattle.std.specs.Prelude.{◌≡◌, ◌+◌, ◌-◌, ◌%◌, ◌^◌, ◌<◌, ◌≤◌, min, nat_abs};
 ghost use Rattle.numbers.specs.Integers.{◌modulo◌};
+
+mod refusals;
+
+pub use refusals::Refusal;
 
 // The remainder of a number. Nearly all that come here are below the modulus already, which the test tells sooner than a division. By 0 nothing
 // is taken off.
@@ -60,4 +64,27 @@ pub fn saturating_sub(a: u64, b: u64) -> u64
         return 0;
     }
     a - b
+}
+
+// a + b modulo M.
+pub fn add(a: u64, b: u64, modulus: u64) -> u64
+    requires { (a < modulus) × (b < modulus) × (modulus ≤ 2 ^ 62) }
+    ensures { result ≡ (a + b) % modulus }
+{
+    let sum = a + b;
+    if sum < modulus {
+        return sum;
+    }
+    sum - modulus
+}
+
+// a - b modulo M. Where b is known to be 0, the compiler sees that there is nothing to do.
+pub fn subtract(a: u64, b: u64, modulus: u64) -> u64
+    requires { (a < modulus) × (b < modulus) }
+    ensures { result ≡ (a + (modulus - b)) % modulus }
+{
+    if b <= a {
+        return a - b;
+    }
+    modulus - (b - a)
 }

@@ -1,0 +1,58 @@
+-- The answer of a call that may refuse, by the number of its checklist. Assumes nothing.
+use Rattle.std.proofs.Common.{◌≡◌, ℕ, zero, suc, ◌<◌, List, Ok, Err, refl, arith}
+use Rattle.numbers.specs.Checklist.{Check, conditions, first_failing}
+use Rattle.numbers.specs.Refusals.{number_of, named, IsNamed, outcome, number_in}
+use Rattle.numbers.specs.Promise.{RefusalsCorrect}
+use Rattle.numbers.specs.declared.refusals.Refusal.{Refusal}
+use Rattle.numbers.specs.declared.refusals.Refusal.TheVariants.{Modulus, Step, Start, Count, Window, Curve, Room, Malformed, Argument, Target, Origin}
+use Rattle.numbers.proofs.Checklists.{AllNumbers, refused_number, refuses}
+
+module _ {A : Type 0} where
+  -- nothing refuses, and the answer is there
+  pub outcome_shown : {n : ℕ} (a : A) → n ≡ 0 → outcome n a ≡ Ok a
+  unfolding outcome
+  outcome_shown a e = rw e refl
+
+  -- an answer is there only where nothing refuses
+  pub shown_accepted : (n : ℕ) (a : A) {x : A} → outcome n a ≡ Ok x → n ≡ 0
+  unfolding outcome
+  shown_accepted zero a e = refl
+  shown_accepted (suc n) a e = absurd (grind (arith, e))
+
+  -- what is refused is so whatever the answer would be
+  pub refused_alike : {B : Type 0} (n : ℕ) (a : A) (b : B) {e : Refusal} → outcome n a ≡ Err e → outcome n b ≡ Err e
+  unfolding outcome
+  refused_alike zero a b h = absurd (grind (arith, h))
+  refused_alike (suc n) a b h = grind (arith, h)
+
+  -- the number of a refusal is the checklist's, where that is one of the eleven
+  pub outcome_number : (n : ℕ) (a : A) → (0 < n → IsNamed n) → number_in (outcome n a) ≡ n
+  unfolding outcome
+  outcome_number zero a h = refl
+  outcome_number (suc n) a h = h (omega arith)
+
+-- what a checklist refuses by is one of the eleven, where all its numbers are
+pub failing_named : (cs : List Check) → AllNumbers IsNamed (conditions cs) → 0 < first_failing cs → IsNamed (first_failing cs)
+failing_named cs all h = go (first_failing cs) refl h
+  where
+    go : (n : ℕ) → first_failing cs ≡ n → 0 < n → IsNamed n
+    go zero e h = absurd (omega (arith, h))
+    go (suc n) e h = refused_number IsNamed (conditions cs) all ((refuses cs n).0 e)
+
+pub refusals_correct : RefusalsCorrect
+unfolding named outcome
+refusals_correct =
+    record {
+      numbers = refl;
+      back = back;
+      shown = λ a. refl;
+      refused = refused;
+      numbered = λ A r. refl;
+      unnumbered = λ a. refl;
+    }
+  where
+    back : (r : Refusal) → named (number_of r) ≡ r
+    back = elim [ Modulus ↦ refl | Step ↦ refl | Start ↦ refl | Count ↦ refl | Window ↦ refl | Curve ↦ refl | Room ↦ refl | Malformed ↦ refl | Argument ↦ refl | Target ↦ refl | Origin ↦ refl ]
+
+    refused : {A : Type 0} (r : Refusal) (a : A) → outcome (number_of r) a ≡ Err r
+    refused r a = elim r as (λ r. outcome (number_of r) a ≡ Err r) [ Modulus ↦ refl | Step ↦ refl | Start ↦ refl | Count ↦ refl | Window ↦ refl | Curve ↦ refl | Room ↦ refl | Malformed ↦ refl | Argument ↦ refl | Target ↦ refl | Origin ↦ refl ]
