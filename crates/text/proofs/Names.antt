@@ -7,7 +7,9 @@ use mathlib.Mathlib.Data.Bool.Basic.{dichotomy}
 use Prim.Native.Nat.{ℕ, ◌+◌, ◌≤◌, max}
 use native.Mathlib.Omega.{arith}
 use lib.Dec.{eqb}
-use lib.ListN.{length, drop, length-append, length-drop}
+use lib.ListN.{length, take, drop}
+use lib.Seq.{drop-drop}
+use lib.Pointwise.{pointwise}
 use borrow.Author.Tests.{eq-eqb, eqb-true}
 use Rattle.text.specs.Reading.{starts}
 
@@ -23,8 +25,13 @@ begins (x ∷ xs) [] h = absurd (false≢true h)
 begins (x ∷ xs) (y ∷ ys) h =
     ⊎_elim (λ e. absurd (false≢true (rw e at h))) (λ e. cc (eqb-true y x e, begins xs ys (rw e at h))) (dichotomy (eqb y x))
 
--- a name that stands at a place has no byte, or ends within the text
-pub name_ends : (name t : List ℕ) (at : ℕ) → starts name (drop at t) ≡ true → at + length name ≤ max at (length t)
-name_ends name t at e =
-    let r = drop (length name) (drop at t) in
-    omega (arith, ap length (begins name (drop at t) e), length-append name r, length-drop at t)
+-- so the library's test of a front tells whether a text begins with a name
+pub starts_is : (name t : List ℕ) → pointwise eqb (take (length name) t) name ≡ starts name t
+unfolding starts
+starts_is [] t = refl
+starts_is (x ∷ xs) [] = refl
+starts_is (x ∷ xs) (y ∷ ys) = rw (starts_is xs ys) (⊎_elim (λ e. rw e) (λ e. rw e) (dichotomy (eqb y x)))
+
+-- what is left after a byte more
+pub after_sign : (k : ℕ) (t : List ℕ) → drop (k + 1) t ≡ drop 1 (drop k t)
+after_sign k t = rw drop-drop

@@ -11,40 +11,29 @@ ghost use Rattle.text.specs.Reading.{field_at, signed_field_at};
 mod reading;
 
 use numbers::{min, saturating_sub};
-use reading::{number, signed, starts_with};
-
-// A number and the place after its line feed.
-#[derive(Drop)]
-pub enum Found {
-    Number(u64, usize),
-    Malformed,
-}
-
-// A signed number and the place after its line feed.
-#[derive(Drop)]
-pub enum FoundSigned {
-    Number(i64, usize),
-    Malformed,
-}
+use reading::{after_name, number, opposite, unsigned};
 
 // A name, a number below 2^64 and a line feed: no sign, no space, no leading zero but in 0 itself.
-pub fn field(text: &[u8], at: usize, name: &[u8]) -> Found
+// Tells the number and the place after the line feed.
+#[tactic(auto, unfolding(crate::specs::Reading::field_at, crate::specs::Reading::number_from))]
+pub fn field(text: &[u8], at: usize, name: &[u8]) -> Option<(u64, usize)>
     ensures { result ≡ field_at name.now at text.now }
 {
-    if starts_with(text, at, name) {
-        return number(text, at + name.len());
-    }
-    Found::Malformed
+    let rest = after_name(text, at, name)?;
+    number(rest, at + name.len())
 }
 
 // The same with a signed number whose size is below 2^63: a minus sign before one that is not 0, and no other sign.
-pub fn signed_field(text: &[u8], at: usize, name: &[u8]) -> FoundSigned
+#[tactic(auto, using(crate::proofs::Names::starts_is, crate::proofs::Names::after_sign), unfolding(crate::specs::Reading::signed_field_at, crate::specs::Reading::signed_from, crate::specs::Reading::number_from, crate::specs::Reading::opposite, crate::specs::Reading::unsigned, crate::specs::Reading::starts))]
+pub fn signed_field(text: &[u8], at: usize, name: &[u8]) -> Option<(i64, usize)>
     ensures { result ≡ signed_field_at name.now at text.now }
 {
-    if starts_with(text, at, name) {
-        return signed(text, at + name.len());
+    let rest = after_name(text, at, name)?;
+    let start = at + name.len();
+    match rest.strip_prefix(b"-") {
+        Some(size) => opposite(number(size, start + 1)?),
+        None => unsigned(number(rest, start)?),
     }
-    FoundSigned::Malformed
 }
 
 // Writes bytes from a place on, as far as there are places, and tells the place after them.
