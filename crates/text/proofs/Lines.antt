@@ -2,7 +2,7 @@
 use mathlib.Core.Path.{◌≡◌, refl, sym, ap, ◌∙◌}
 use mathlib.Core.Bool.{true, false, cond}
 use mathlib.Core.List.{List, [], ◌∷◌, ◌++◌, append_assoc}
-use mathlib.Core.Logic.{◌↔◌, ◌⊎◌, inl, inr, ⊎_elim}
+use mathlib.Core.Logic.{◌↔◌, ⊎_elim}
 use mathlib.Mathlib.Data.Bool.Basic.{dichotomy}
 use Prim.Native.Nat.{ℕ, zero, suc, ◌+◌, ◌/◌, ◌%◌, ◌^◌, ◌<◌}
 use native.Mathlib.Nat.{zero-lt-suc}
@@ -52,14 +52,12 @@ module _ (name t : List ℕ) (at : ℕ) where
 
 -- a size without a sign
 unsigned_from : (f : Option (ℕ × ℕ)) {s : ℤ} {end : ℕ} → unsigned f ≡ Some (s, end) → (n : ℕ) × (f ≡ Some (n, end)) × (s ≡ pos n) × (n < 2 ^ 63)
-unfolding unsigned
 unsigned_from None e = absurd (none-some _ e)
 unsigned_from (Some (n, last)) {s} {end} e =
     ⊎_elim (λ b. absurd (none-some _ (rw b at e))) (λ b. let p = some_pair_parts _ _ _ _ (rw b at e) in (n, cc, cc, ltb-true n (2 ^ 63) b)) (dichotomy (ltb n (2 ^ 63)))
 
 -- a size after a minus sign
 opposite_from : (f : Option (ℕ × ℕ)) {s : ℤ} {end : ℕ} → opposite f ≡ Some (s, end) → (n : ℕ) × (f ≡ Some (suc n, end)) × (s ≡ negsuc n) × (suc n < 2 ^ 63)
-unfolding opposite
 opposite_from None e = absurd (none-some _ e)
 opposite_from (Some (zero, last)) e = absurd (none-some _ e)
 opposite_from (Some (suc n, last)) {s} {end} e =
@@ -85,7 +83,7 @@ module _ (t : List ℕ) (at : ℕ) where
       (dichotomy (starts (bytes "-") (drop at t)))
 
   signed_reads : (s : ℤ) (end : ℕ) → (nat_abs s < 2 ^ 63) × WrittenAt (signed_decimal s) t at end → signed_from at t ≡ Some (s, end)
-  unfolding signed_from signed_decimal unsigned opposite
+  unfolding signed_from signed_decimal
   signed_reads (pos n) end h =
       rw (h.1.text, no_minus n (10 ∷ drop end t), ← h.1.text, (number_iff t at n end).1 (omega (arith, h.0), h.1), lt-ltb n (2 ^ 63) h.0)
   signed_reads (negsuc n) end h =

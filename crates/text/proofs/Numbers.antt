@@ -12,7 +12,7 @@ use lib.Dec.{eqb}
 use lib.ListN.{length, get_or, drop, length-append, length-drop}
 use lib.Seq.{drop-cons, drop-drop}
 use borrow.Author.Tests.{lt-ltb, le-leb, ne_eqb, eqb-true}
-use Rattle.std.proofs.Common.{Some, None}
+use Rattle.std.proofs.Common.{Some}
 use Rattle.std.proofs.lemmas.Option.{none-some, some_pair_parts}
 use Rattle.numbers.proofs.Lists.{after_piece}
 use Rattle.text.specs.Text.{digit, decimal}

@@ -35,12 +35,12 @@ field_at name at t =
     cond (starts name (drop at t)) (number_from (at + length name) (drop (at + length name) t)) None
 
 -- a number without a sign: a size below 2^63
-unfoldable pub unsigned : Option (ℕ × ℕ) → Option (ℤ × ℕ)
+abbrev pub unsigned : Option (ℕ × ℕ) → Option (ℤ × ℕ)
 unsigned (Some (n, end)) = cond (ltb n (2 ^ 63)) (Some (pos n, end)) None
 unsigned None = None
 
 -- a number after a minus sign: a size below 2^63 and not 0
-unfoldable pub opposite : Option (ℕ × ℕ) → Option (ℤ × ℕ)
+abbrev pub opposite : Option (ℕ × ℕ) → Option (ℤ × ℕ)
 opposite (Some (n, end)) =
     cond (ltb 0 n && ltb n (2 ^ 63)) (Some (neg_ℤ (pos n), end)) None
 opposite None = None

@@ -1,12 +1,16 @@
 // Names and numbers, at the front of what is left of a text.
-ghost use Rattle.std.specs.Prelude.{◌≡◌, [], ◌+◌, ◌-◌, ◌*◌, ◌^◌, ◌≤◌, ◌<◌, ◌⊎◌, true, false, length, drop, MatchOption, if◌then◌else◌};
+ghost use Rattle.std.specs.Prelude.{◌≡◌, ◌+◌, ◌-◌, ◌*◌, ◌^◌, ◌≤◌, ◌<◌, max, true, false, length, drop, MatchOption, if◌then◌else◌};
 ghost use Rattle.text.specs.Reading.{starts, takes_digit, digits_from, number_from, unsigned, opposite};
 
 // What is left of a text after a name that stands at a place of it.
 pub(crate) fn after_name<'a>(text: &'a [u8], at: usize, name: &[u8]) -> Option<&'a [u8]>
-    ensures { MatchOption result ((starts name.now (drop at text.now) ≡ false) ⊎ (drop (at + length name.now) text.now ≡ [])) (λ rest. (starts name.now (drop at text.now) ≡ true) × (rest.now ≡ drop (at + length name.now) text.now) × (at + length name.now ≤ length text.now)) }
+    ensures { MatchOption result
+        (starts name.now (drop at text.now) ≡ false)
+        (λ rest. (starts name.now (drop at text.now) ≡ true)
+        × (rest.now ≡ drop (at + length name.now) text.now)
+        × (at + length name.now ≤ max at (length text.now))) }
 {
-    text.get(at..)?.strip_prefix(name)
+    text[at.min(text.len())..].strip_prefix(name)
 }
 
 // A number and its line feed, at a place of a text. Tells the number and the place after the line feed.
@@ -50,7 +54,7 @@ fn with_digit(n: u64, x: u8) -> Option<u64>
 }
 
 // A number without a sign: a size below 2^63.
-#[tactic(auto, using(std::proofs::lemmas::Bool::Decides::nat_tests), unfolding(crate::specs::Reading::unsigned))]
+#[tactic(auto, using(std::proofs::lemmas::Bool::Decides::nat_tests))]
 pub(crate) fn unsigned(size: (u64, usize)) -> Option<(i64, usize)>
     ensures { result ≡ unsigned (Some size) }
 {
@@ -59,7 +63,7 @@ pub(crate) fn unsigned(size: (u64, usize)) -> Option<(i64, usize)>
 }
 
 // A number after a minus sign: a size below 2^63 that is not 0.
-#[tactic(auto, using(std::proofs::lemmas::Bool::Decides::nat_tests), unfolding(crate::specs::Reading::opposite))]
+#[tactic(auto, using(std::proofs::lemmas::Bool::Decides::nat_tests))]
 pub(crate) fn opposite(size: (u64, usize)) -> Option<(i64, usize)>
     ensures { result ≡ opposite (Some size) }
 {
