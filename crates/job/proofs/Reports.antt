@@ -1,9 +1,9 @@
 -- Lines that are written one after another. Assumes nothing.
-use mathlib.Core.Path.{◌≡◌, ap, ap₂}
+use mathlib.Core.Path.{◌≡◌, refl, ap}
+use mathlib.Core.Logic.{◌⊎◌, inl, inr}
 use mathlib.Core.List.{List, [], ◌∷◌, ◌++◌, append_assoc}
 use Prim.Native.Nat.{ℕ, ◌+◌, ◌<◌}
 use native.Mathlib.Numerals.{add-one}
-use native.Mathlib.Omega.{arith}
 use lib.ListN.{length, get_or, drop}
 use lib.Seq.{sets, drop-cons}
 use Rattle.numbers.specs.Lists.{place_after}
@@ -28,17 +28,21 @@ module _ {goal old : List ℕ} {from : ℕ} {now new : List ℕ} {at at' : ℕ} 
   clip_mark xs i h w e = rw (add-one i) (clip_list (digit (get_or xs i 0) ∷ []) _ (clip_restate (ap mark_digits (drop-cons xs i 0 h)) w) e)
 
 -- of the arguments that are left the first, with its value: by the contracts of the calls that write the name, the number, and the value's name and number
-pub clip_argument : {goal old : List ℕ} {from : ℕ} {now named numbered new : List ℕ} {at after_name after_argument at' : ℕ} (xs vs : List ℕ) (i : ℕ)
-    → i < length xs → length vs ≡ length xs
-    → Clipped goal old from (argument_lines (drop i xs) (drop i vs)) now at
+pub clip_argument : {goal old : List ℕ} {from : ℕ} {now named numbered new : List ℕ} {at after_name after_argument at' : ℕ} (x v : ℕ) (xs vs : List ℕ)
+    → Clipped goal old from (argument_lines (x ∷ xs) (v ∷ vs)) now at
     → (after_name ≡ place_after at (bytes "argument=") now) × (named ≡ sets now at (bytes "argument="))
-    → (after_argument ≡ place_after after_name (decimal (get_or xs i 0)) named) × (numbered ≡ sets named after_name (decimal (get_or xs i 0)))
-    → (at' ≡ place_after after_argument (line (bytes " value=") (decimal (get_or vs i 0)) []) numbered)
-    × (new ≡ sets numbered after_argument (line (bytes " value=") (decimal (get_or vs i 0)) []))
-    → Clipped goal old from (argument_lines (drop (i + 1) xs) (drop (i + 1) vs)) new at'
+    → (after_argument ≡ place_after after_name (decimal x) named) × (numbered ≡ sets named after_name (decimal x))
+    → (at' ≡ place_after after_argument (line (bytes " value=") (decimal v) []) numbered)
+    × (new ≡ sets numbered after_argument (line (bytes " value=") (decimal v) []))
+    → Clipped goal old from (argument_lines xs vs) new at'
 unfolding argument_lines
-clip_argument xs vs i h e w name argument value =
-    rw (add-one i)
-    (clip_line (bytes " value=") (decimal (get_or vs i 0)) _
-    (clip_list (decimal (get_or xs i 0)) _
-    (clip_list (bytes "argument=") _ (clip_restate (ap₂ argument_lines (drop-cons xs i 0 h) (drop-cons vs i 0 (omega (arith, e)))) w) name) argument) value)
+clip_argument x v xs vs w name argument value =
+    clip_line (bytes " value=") (decimal v) _ (clip_list (decimal x) _ (clip_list (bytes "argument=") _ w name) argument) value
+
+-- no argument is left, or no value
+pub no_lines : (xs vs : List ℕ) → (xs ≡ []) ⊎ (vs ≡ []) → argument_lines xs vs ≡ []
+unfolding argument_lines
+no_lines [] vs e = refl
+no_lines (x ∷ xs) [] e = refl
+no_lines (x ∷ xs) (v ∷ vs) (inl e) = cc
+no_lines (x ∷ xs) (v ∷ vs) (inr e) = cc

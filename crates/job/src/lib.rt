@@ -7,7 +7,7 @@
 ghost use Rattle.std.specs.Prelude.{◌≡◌, length};
 ghost use Rattle.std.proofs.lemmas.List.Edits.{sets};
 ghost use Rattle.numbers.specs.Lists.{overwrite_front, place_after};
-ghost use Rattle.job.specs.Reading.{rest_from, lines_from, reading};
+ghost use Rattle.job.specs.Reading.{lines_from, reading};
 ghost use Rattle.job.specs.Output.{job_answer, job_marks, job_list, job_values, output_with, output_of, longest};
 
 mod report;
@@ -18,65 +18,38 @@ use report::{put_refusal, put_report};
 // The longest answer: 4,096 arguments of sixteen digits with values of nineteen.
 pub const LONGEST: usize = 213034;
 
-// A text is that of a job, or it is malformed.
-#[derive(Drop)]
-pub enum Reading {
-    Read(Domain),
-    Malformed,
-}
-
-// Reads a job: no space, no sign but a minus before a curve that is not 0, no leading zero but in 0 itself, numbers below 2^64, a curve's
-// size below 2^63, nothing after the line feed of the window. Without the line of the origin the text begins with that of the modulus.
-pub fn read_job(text: &[u8]) -> Reading
+// Reads a job, where a text is one: no space, no sign but a minus before a curve that is not 0, no leading zero but in 0 itself, numbers below
+// 2^64, a curve's size below 2^63, nothing after the line feed of the window. Without the line of the origin the text begins with that of the modulus.
+#[tactic(auto, unfolding(crate::specs::Reading::reading))]
+pub fn read_job(text: &[u8]) -> Option<Domain>
     ensures { result ≡ reading text.now }
 {
-    match text::field(text, 0, b"origin=") {
-        text::Found::Number(origin, after_origin) => read_lines(text, after_origin, origin),
-        text::Found::Malformed => read_lines(text, 0, 0),
-    }
+    let (origin, at) = text::field(text, 0, b"origin=").unwrap_or((0, 0));
+    read_lines(text, at, origin)
 }
 
 // The six lines that every job has, from a place on.
-fn read_lines(text: &[u8], at: usize, origin: u64) -> Reading
+#[tactic(auto, unfolding(crate::specs::Reading::lines_from, crate::specs::Reading::rest_from))]
+fn read_lines(text: &[u8], at: usize, origin: u64) -> Option<Domain>
     ensures { result ≡ lines_from at origin text.now }
 {
-    let text::Found::Number(modulus, after_modulus) = text::field(text, at, b"modulus=") else {
-        return Reading::Malformed;
-    };
-    let text::Found::Number(value, after_value) = text::field(text, after_modulus, b"value=") else {
-        return Reading::Malformed;
-    };
-    let text::Found::Number(slope, after_slope) = text::field(text, after_value, b"slope=") else {
-        return Reading::Malformed;
-    };
-    read_rest(text, after_slope, origin, modulus, value, slope)
-}
-
-// The last three lines, after those of the modulus, the value and the slope.
-fn read_rest(text: &[u8], at: usize, origin: u64, modulus: u64, value: u64, slope: u64) -> Reading
-    ensures { result ≡ rest_from at origin modulus value slope text.now }
-{
-    let text::FoundSigned::Number(curve, after_curve) = text::signed_field(text, at, b"curve=")
-    else {
-        return Reading::Malformed;
-    };
-    let text::Found::Number(count, after_count) = text::field(text, after_curve, b"count=") else {
-        return Reading::Malformed;
-    };
-    let text::Found::Number(window, end) = text::field(text, after_count, b"window=") else {
-        return Reading::Malformed;
-    };
+    let (modulus, at) = text::field(text, at, b"modulus=")?;
+    let (value, at) = text::field(text, at, b"value=")?;
+    let (slope, at) = text::field(text, at, b"slope=")?;
+    let (curve, at) = text::signed_field(text, at, b"curve=")?;
+    let (count, at) = text::field(text, at, b"count=")?;
+    let (window, end) = text::field(text, at, b"window=")?;
     if end < text.len() {
-        return Reading::Malformed;
+        return None;
     }
-    Reading::Read(Domain {
-        origin: origin,
-        modulus: modulus,
-        value: value,
-        slope: slope,
-        curve: curve,
-        count: count,
-        window: window,
+    Some(Domain {
+        origin,
+        modulus,
+        value,
+        slope,
+        curve,
+        count,
+        window,
     })
 }
 
@@ -91,7 +64,7 @@ pub fn run_job(text: &[u8], out: &mut [u8; LONGEST]) -> usize
 }
 
 // Prints the answer to a job, or the refusal of a text that is none.
-fn print_answer(job: Reading, out: &mut [u8]) -> usize
+fn print_answer(job: Option<Domain>, out: &mut [u8]) -> usize
     ensures place { result ≡ place_after 0 (output_with job) out.old }
     ensures written { out.new ≡ sets out.old 0 (output_with job) }
 {
@@ -112,7 +85,7 @@ fn print_answer(job: Reading, out: &mut [u8]) -> usize
 
 // Searches the domain of a job. A text that is none is refused by 8, and leaves marks, list and values as they were.
 fn search(
-    job: Reading,
+    job: Option<Domain>,
     marks: &mut [u8; 8],
     list: &mut [u64],
     values: &mut [u64],
@@ -123,7 +96,7 @@ fn search(
     ensures values_after { values.new ≡ job_values job (length list.old) values.old }
 {
     match job {
-        Reading::Read(domain) => domain::search_domain(domain, marks, list, values),
-        Reading::Malformed => domain::DomainAnswer::Refused(8),
+        Some(domain) => domain::search_domain(domain, marks, list, values),
+        None => domain::DomainAnswer::Refused(8),
     }
 }

@@ -24,8 +24,7 @@ pub(crate) fn put_report(
     values: &[u64],
     out: &mut [u8],
 ) -> usize
-    requires small_marks { SmallMarks marks.now }
-    requires as_many { length values.now ≡ length arguments.now }
+    requires { SmallMarks marks.now }
     ensures place { result ≡ place_after 0 (report first marks.now arguments.now values.now) out.old }
     ensures written { out.new ≡ sets out.old 0 (report first marks.now arguments.now values.now) }
 {
@@ -42,7 +41,7 @@ fn put_first(first: segment::Verdict, out: &mut [u8], at: usize) -> usize
 {
     let after_name = put(b"first=", out, at);
     let after_verdict = put_verdict(first, out, after_name);
-    put_byte(10, out, after_verdict)
+    put_byte(b'\n', out, after_verdict)
 }
 
 // What a verdict is called.
@@ -64,7 +63,7 @@ fn put_parts(marks: &[u8], out: &mut [u8], at: usize) -> usize
 {
     let after_name = put(b"parts=", out, at);
     let after_marks = put_marks(marks, out, after_name);
-    put_byte(10, out, after_marks)
+    put_byte(b'\n', out, after_marks)
 }
 
 // The marks, a digit each.
@@ -73,28 +72,23 @@ fn put_marks(marks: &[u8], out: &mut [u8], at: usize) -> usize
     ensures place { result ≡ place_after at (mark_digits marks.now) out.old }
     ensures written { out.new ≡ sets out.old at (mark_digits marks.now) }
 {
-    let mut i = 0;
     let mut end = at;
-    while i < marks.len() {
-        end = put_byte(48 + marks[i], out, end);
-        i = i + 1;
+    for mark in marks {
+        end = put_byte(b'0' + *mark, out, end);
     }
     end
 }
 
 // A line for each argument and its value.
 fn put_arguments(arguments: &[u64], values: &[u64], out: &mut [u8], at: usize) -> usize
-    requires { length values.now ≡ length arguments.now }
     ensures place { result ≡ place_after at (argument_lines arguments.now values.now) out.old }
     ensures written { out.new ≡ sets out.old at (argument_lines arguments.now values.now) }
 {
-    let mut i = 0;
     let mut end = at;
-    while i < arguments.len() {
+    for (argument, value) in arguments.iter().zip(values) {
         let after_name = put(b"argument=", out, end);
-        let after_argument = put_number(arguments[i], out, after_name);
-        end = put_line(b" value=", values[i], out, after_argument);
-        i = i + 1;
+        let after_argument = put_number(*argument, out, after_name);
+        end = put_line(b" value=", *value, out, after_argument);
     }
     end
 }

@@ -1,47 +1,38 @@
 -- Bytes that are written one by one, as far as there are places; and a line that is written piece by piece: a name, what comes after it, and the line
 -- feed. Assumes nothing.
-use mathlib.Core.Path.{◌≡◌}
+use mathlib.Core.Path.{◌≡◌, refl, sym}
+use mathlib.Core.Logic.{by_cases}
+use native.Mathlib.Decide.{dec_le}
 use mathlib.Core.List.{List, [], ◌∷◌, ◌++◌}
-use Prim.Native.Nat.{ℕ, ◌+◌, ◌-◌, ◌≤◌, ◌<◌, min}
-use native.Mathlib.Nat.{add-zero, add_assoc, le_antisymm}
-use native.Mathlib.Numerals.{add-one}
+use Prim.Native.Nat.{ℕ, ◌+◌, ◌-◌, ◌≤◌, min}
 use native.Mathlib.Omega.{arith}
-use lib.ListN.{length, get_or, set, drop, length-drop}
-use lib.Seq.{sets, drop-cons}
+use lib.ListN.{length, take, drop, length-drop, length-take}
+use lib.Seq.{sets, sets-eq, length-sets}
+use Rattle.std.proofs.Common.{take-append-drop, ◌∙◌}
+use Rattle.std.proofs.lemmas.Grind.{common_steps}
+use borrow.Rule.Slice.PartMut.{put_mid}
 use Rattle.numbers.specs.Lists.{place_after}
-use Rattle.numbers.proofs.Buffers.{Clipped, clip_restate, clip_begin, clip_one, clip_list, clip_done, clip_full, clip_length}
+use Rattle.numbers.proofs.Buffers.{clip_restate, clip_begin, clip_list, clip_done, clip_full}
 use Rattle.text.specs.Text.{line_feed, line}
 
--- ---- byte by byte
+-- ---- bytes
 
--- of the bytes that have a place, n, the first i are written
-pub record FrontWritten (bytes old : List ℕ) (at n : ℕ) (now : List ℕ) (i : ℕ) : Type 0 where
-  pub counted : i ≤ n
-  pub left : Clipped bytes old at (drop i bytes) now (at + i)
-
-pub front_begin : (bytes old : List ℕ) (at n : ℕ) → FrontWritten bytes old at n old 0
-front_begin bytes old at n = record { counted = omega arith; left = rw add-zero (clip_begin bytes old at) }
-
-module _ {bytes old : List ℕ} {at n : ℕ} {now : List ℕ} {i : ℕ} (w : FrontWritten bytes old at n now i) (e : n ≡ min (length bytes) (length old - at)) where
-  -- there is another byte, and a place for it
-  pub byte_and_place : i < n → (i < length bytes) × (at + i < length now)
-  byte_and_place h = rw (clip_length w.left) (within (length bytes) (length old) e h)
-    where
-      within : {n : ℕ} (l m : ℕ) → n ≡ min l (m - at) → i < n → (i < l) × (at + i < m)
-      within l m e h = omega arith
-
-  pub front_more : i < n → FrontWritten bytes old at n (set now (at + i) (get_or bytes i 0)) (i + 1)
-  front_more h =
-      let b = byte_and_place h in
-      record { counted = omega (arith, h); left = rw (← add_assoc at i 1, add-one i) (clip_one (clip_restate (drop-cons bytes i 0 b.0) w.left) b.1) }
-
-  pub front_done : n ≤ i → (at + n ≡ place_after at bytes old) × (now ≡ sets old at bytes)
-  front_done h =
-      let f : i ≡ n = le_antisymm w.counted h in
-      rw f at (clip_full w.left (rw (length-drop i bytes, clip_length w.left) (nothing (length bytes) (length old) f e)))
-    where
-      nothing : {n : ℕ} (l m : ℕ) → i ≡ n → n ≡ min l (m - at) → min (l - i) (m - (at + i)) ≡ 0
-      nothing l m f e = omega arith
+-- the bytes that have a place, n of them, are written; nothing is where the place is beyond the end
+pub front_written : (bytes old part : List ℕ) (at start n : ℕ) → start ≡ min at (length old) → n ≡ min (length bytes) (length old - start)
+    → part ≡ take n bytes → put_mid start (start + n - start) old part ≡ sets old at bytes
+front_written bytes old part at start n s m p =
+    let l : length (take n bytes) ≡ n = omega (arith, length-take n bytes) in
+    let now : put_mid start (start + n - start) old part ≡ sets old start (take n bytes) =
+    rw (p, sets-eq (take n bytes) old start (omega arith)) (grind (arith, common_steps)) in
+    now ∙ by_cases (dec_le at (length old))
+    (λ h. let same : start ≡ at = omega arith in
+    let cut = clip_restate (sym (take-append-drop n bytes)) (clip_begin bytes old at) in
+    let front = clip_list (take n bytes) (drop n bytes) cut (the_place h, refl) in
+    rw same (clip_full front (omega (arith, length-drop n bytes, length-sets old at (take n bytes)))).1)
+    (λ h. let none : n ≡ 0 = omega arith in rw none (clip_full (clip_begin bytes old at) (omega arith)).1)
+  where
+    the_place : at ≤ length old → at + n ≡ place_after at (take n bytes) old
+    the_place h = omega (arith, length-take n bytes)
 
 -- ---- a line
 

@@ -10,41 +10,29 @@ ghost use Rattle.text.specs.Reading.{field_at, signed_field_at};
 
 mod reading;
 
-use numbers::{min, saturating_sub};
-use reading::{number, signed, starts_with};
-
-// A number and the place after its line feed.
-#[derive(Drop)]
-pub enum Found {
-    Number(u64, usize),
-    Malformed,
-}
-
-// A signed number and the place after its line feed.
-#[derive(Drop)]
-pub enum FoundSigned {
-    Number(i64, usize),
-    Malformed,
-}
+use reading::{after_name, number, opposite, unsigned};
 
 // A name, a number below 2^64 and a line feed: no sign, no space, no leading zero but in 0 itself.
-pub fn field(text: &[u8], at: usize, name: &[u8]) -> Found
+// Tells the number and the place after the line feed.
+#[tactic(auto, unfolding(crate::specs::Reading::field_at))]
+pub fn field(text: &[u8], at: usize, name: &[u8]) -> Option<(u64, usize)>
     ensures { result ≡ field_at name.now at text.now }
 {
-    if starts_with(text, at, name) {
-        return number(text, at + name.len());
-    }
-    Found::Malformed
+    let rest = after_name(text, at, name)?;
+    number(rest, at + name.len())
 }
 
 // The same with a signed number whose size is below 2^63: a minus sign before one that is not 0, and no other sign.
-pub fn signed_field(text: &[u8], at: usize, name: &[u8]) -> FoundSigned
+#[tactic(auto, using(crate::proofs::Names::minus_sign), unfolding(crate::specs::Reading::signed_field_at, crate::specs::Reading::signed_from))]
+pub fn signed_field(text: &[u8], at: usize, name: &[u8]) -> Option<(i64, usize)>
     ensures { result ≡ signed_field_at name.now at text.now }
 {
-    if starts_with(text, at, name) {
-        return signed(text, at + name.len());
+    let rest = after_name(text, at, name)?;
+    let start = at + name.len();
+    match rest.strip_prefix(b"-") {
+        Some(size) => opposite(number(size, start + 1)?),
+        None => unsigned(number(rest, start)?),
     }
-    FoundSigned::Malformed
 }
 
 // Writes bytes from a place on, as far as there are places, and tells the place after them.
@@ -52,13 +40,9 @@ pub fn put(bytes: &[u8], out: &mut [u8], at: usize) -> usize
     ensures place { result ≡ place_after at bytes.now out.old }
     ensures written { out.new ≡ sets out.old at bytes.now }
 {
-    let room = saturating_sub(out.len() as u64, at as u64);
-    let n = min(bytes.len() as u64, room) as usize;
-    let mut i = 0;
-    while i < n {
-        out[at + i] = bytes[i];
-        i = i + 1;
-    }
+    let start = at.min(out.len());
+    let n = bytes.len().min(out.len() - start);
+    out[start..start + n].copy_from_slice(&bytes[..n]);
     at + n
 }
 
@@ -84,11 +68,11 @@ pub fn put_number(n: u64, out: &mut [u8], at: usize) -> usize
     let mut first = 19;
     let mut left = n;
     while 10 <= left {
-        digits[first] = (48 + left % 10) as u8;
-        left = left / 10;
-        first = first - 1;
+        digits[first] = b'0' + (left % 10) as u8;
+        left /= 10;
+        first -= 1;
     }
-    digits[first] = (48 + left) as u8;
+    digits[first] = b'0' + left as u8;
     put(&digits[first..], out, at)
 }
 
@@ -99,5 +83,5 @@ pub fn put_line(name: &[u8], n: u64, out: &mut [u8], at: usize) -> usize
 {
     let after_name = put(name, out, at);
     let after_number = put_number(n, out, after_name);
-    put_byte(10, out, after_number)
+    put_byte(b'\n', out, after_number)
 }

@@ -25,8 +25,8 @@ slice_bounds-put_report-end-in-Searched-2 c =
     let found = output_reported c.args.job (sym c.search.ensures.value ∙ c.in-Searched.is) in
     sym (length-take-le _ _ (rw c.search.ensures.values_after found.values_within))
 
-pub put_report-requires-clause-small_marks : goal.put_report-requires-clause-small_marks
-put_report-requires-clause-small_marks c =
+pub put_report-requires : goal.put_report-requires
+put_report-requires c =
     let found = output_reported c.args.job (sym c.search.ensures.value ∙ c.in-Searched.is) in
     rw c.search.ensures.marks_after found.small
 

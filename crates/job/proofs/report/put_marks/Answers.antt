@@ -2,7 +2,7 @@
 use Rattle.job.proofs.Reports.{clip_mark}
 use Rattle.job.proofs.report.put_marks.Goals as goal
 
-pub loop-i-preserved : goal.loop-i-preserved
-loop-i-preserved c =
+pub loop-mark-preserved : goal.loop-mark-preserved
+loop-mark-preserved c =
     let p = c.put_byte-end.ensures in
-    clip_mark _ _ c.loop-i-test.true c.loop-i.invariant (p.place, p.written)
+    clip_mark _ _ c.loop-mark-test.true c.loop-mark.invariant (p.place, p.written)
