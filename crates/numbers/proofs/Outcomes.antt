@@ -1,11 +1,29 @@
 -- The answer of a call that may refuse, by the number of its checklist. Assumes nothing.
-use Rattle.std.proofs.Common.{◌≡◌, ℕ, zero, suc, ◌<◌, List, Ok, Err, refl, arith}
-use Rattle.numbers.specs.Checklist.{Check, conditions, first_failing}
+use Rattle.std.proofs.Common.{◌≡◌, ℕ, zero, suc, ◌<◌, List, Result, Ok, Err, IsOkAnd, IsErrAnd, refl, sym, ap, ◌∙◌, arith}
+use Rattle.numbers.specs.Checklist.{Check, conditions, first_failing, AllHold, RefusedBy}
 use Rattle.numbers.specs.Refusals.{number_of, named, IsNamed, outcome, number_in}
 use Rattle.numbers.specs.Promise.{RefusalsCorrect}
 use Rattle.numbers.specs.declared.refusals.Refusal.{Refusal}
 use Rattle.numbers.specs.declared.refusals.Refusal.TheVariants.{Modulus, Step, Start, Count, Window, Curve, Room, Malformed, Argument, Target, Origin}
-use Rattle.numbers.proofs.Checklists.{AllNumbers, refused_number, refuses}
+use Rattle.numbers.proofs.Checklists.{AllNumbers, refused_number, refuses, refused, accepted}
+
+pub refusals_correct : RefusalsCorrect
+unfolding named outcome
+refusals_correct =
+    record {
+      numbers = refl;
+      back = back;
+      shown = λ a. refl;
+      refused = refused;
+      numbered = λ A r. refl;
+      unnumbered = λ a. refl;
+    }
+  where
+    back : (r : Refusal) → named (number_of r) ≡ r
+    back = elim [ Modulus ↦ refl | Step ↦ refl | Start ↦ refl | Count ↦ refl | Window ↦ refl | Curve ↦ refl | Room ↦ refl | Malformed ↦ refl | Argument ↦ refl | Target ↦ refl | Origin ↦ refl ]
+
+    refused : {A : Type 0} (r : Refusal) (a : A) → outcome (number_of r) a ≡ Err r
+    refused r a = elim r as (λ r. outcome (number_of r) a ≡ Err r) [ Modulus ↦ refl | Step ↦ refl | Start ↦ refl | Count ↦ refl | Window ↦ refl | Curve ↦ refl | Room ↦ refl | Malformed ↦ refl | Argument ↦ refl | Target ↦ refl | Origin ↦ refl ]
 
 module _ {A : Type 0} where
   -- nothing refuses, and the answer is there
@@ -31,6 +49,24 @@ module _ {A : Type 0} where
   outcome_number zero a h = refl
   outcome_number (suc n) a h = h (omega arith)
 
+  -- what holds of the answer that is there holds where nothing refuses
+  pub shown_holds : (n : ℕ) {a : A} (P : A → Type 0) → n ≡ 0 → P a → IsOkAnd (outcome n a) P
+  unfolding outcome
+  shown_holds n P e p = rw e p
+
+  -- an answer with a number is a refusal, which has that number
+  pub error_numbered : (r : Result A Refusal) → 0 < number_in r → IsErrAnd r (λ e. number_of e ≡ number_in r)
+  error_numbered (Ok x) h = absurd (omega (arith, h))
+  error_numbered (Err e) h = refl
+
+  -- the answer by a checklist: a refusal whose condition is the first that does not hold
+  pub outcome_refused : (cs : List Check) (r : Refusal) (a : A) → RefusedBy (conditions cs) (number_of r) → Err r ≡ outcome (first_failing cs) a
+  outcome_refused cs r a h = sym (refusals_correct.refused r a) ∙ ap (λ n. outcome n a) (sym (refused cs h))
+
+  -- and what is there where every condition holds
+  pub outcome_accepted : (cs : List Check) (a : A) → AllHold (conditions cs) → Ok a ≡ outcome (first_failing cs) a
+  outcome_accepted cs a h = sym (outcome_shown a (accepted cs h))
+
 -- what a checklist refuses by is one of the eleven, where all its numbers are
 pub failing_named : (cs : List Check) → AllNumbers IsNamed (conditions cs) → 0 < first_failing cs → IsNamed (first_failing cs)
 failing_named cs all h = go (first_failing cs) refl h
@@ -38,21 +74,3 @@ failing_named cs all h = go (first_failing cs) refl h
     go : (n : ℕ) → first_failing cs ≡ n → 0 < n → IsNamed n
     go zero e h = absurd (omega (arith, h))
     go (suc n) e h = refused_number IsNamed (conditions cs) all ((refuses cs n).0 e)
-
-pub refusals_correct : RefusalsCorrect
-unfolding named outcome
-refusals_correct =
-    record {
-      numbers = refl;
-      back = back;
-      shown = λ a. refl;
-      refused = refused;
-      numbered = λ A r. refl;
-      unnumbered = λ a. refl;
-    }
-  where
-    back : (r : Refusal) → named (number_of r) ≡ r
-    back = elim [ Modulus ↦ refl | Step ↦ refl | Start ↦ refl | Count ↦ refl | Window ↦ refl | Curve ↦ refl | Room ↦ refl | Malformed ↦ refl | Argument ↦ refl | Target ↦ refl | Origin ↦ refl ]
-
-    refused : {A : Type 0} (r : Refusal) (a : A) → outcome (number_of r) a ≡ Err r
-    refused r a = elim r as (λ r. outcome (number_of r) a ≡ Err r) [ Modulus ↦ refl | Step ↦ refl | Start ↦ refl | Count ↦ refl | Window ↦ refl | Curve ↦ refl | Room ↦ refl | Malformed ↦ refl | Argument ↦ refl | Target ↦ refl | Origin ↦ refl ]
