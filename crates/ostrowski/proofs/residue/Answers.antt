@@ -1,43 +1,24 @@
 -- `ostrowski::residue` meets its contract: a refusal, or what the rows come to. Assumes nothing.
-use mathlib.Core.Path.{sym, ◌∙◌}
-use native.Mathlib.Omega.{arith}
-use Rattle.ostrowski.proofs.Taking.{tabled, remainders_tabled, few_rows, period_read, denominator_positive, reducing_first, reducing_next, residue_below, term_fits, residue_made}
-use Rattle.ostrowski.proofs.Refusals.{first_refused, last_refused, none_refused}
-use Rattle.ostrowski.proofs.Answers.{residue_answer_correct}
+use Rattle.std.proofs.Common.{Ok, refl, sym, ap, ◌∙◌, rules, arith}
+use Rattle.numbers.proofs.Outcomes.{refused_alike}
+use Rattle.ostrowski.specs.Answer.{residue_answer}
+use Rattle.ostrowski.proofs.Refusals.{shown_alike}
+use Rattle.ostrowski.proofs.Taking.{taking_first, denominator_positive, reducing_first, reducing_next, residue_below, term_fits, residue_made}
 use Rattle.ostrowski.proofs.residue.Goals as goal
 
-pub returns-then-number-ne0 : goal.returns-then-number-ne0
-returns-then-number-ne0 c =
-    sym (((residue_answer_correct _ _ _).refused _).1 (first_refused _ _ c.refuse-number.ensures c.if-number-ne0.true))
-
-pub offset_bounds-denominators-last : goal.offset_bounds-denominators-last
-offset_bounds-denominators-last c =
-    let h = few_rows (tabled (sym c.refuse-number.ensures ∙ c.if-number-ne0.false) c.expand-answer.ensures) in omega arith
-
-pub bounds-denominators-last : goal.bounds-denominators-last
-bounds-denominators-last c =
-    let h = few_rows (tabled (sym c.refuse-number.ensures ∙ c.if-number-ne0.false) c.expand-answer.ensures) in omega arith
-
-pub returns-then-denominators-last : goal.returns-then-denominators-last
-returns-then-denominators-last c =
-    let t = tabled (sym c.refuse-number.ensures ∙ c.if-number-ne0.false) c.expand-answer.ensures in
-    sym (((residue_answer_correct _ _ _).refused 9).1
-    (last_refused t.accepted (λ h. omega (arith, h, c.if-denominators-last.true, period_read t))))
+pub returns-in_err-table : goal.returns-in_err-table
+unfolding residue_answer
+returns-in_err-table c = search (rules, refused_alike)
 
 pub loop-row-init : goal.loop-row-init
-loop-row-init c =
-    let e = sym c.refuse-number.ensures ∙ c.if-number-ne0.false in
-    let t = tabled e c.expand-answer.ensures in
-    reducing_first t (remainders_tabled e c.expand-answer.ensures) (omega (arith, c.if-denominators-last.false, period_read t))
+loop-row-init c = reducing_first (taking_first c.in_ok-table.ensures) refl
 
 pub nonzero_div-term : goal.nonzero_div-term
 nonzero_div-term c = denominator_positive c.loop-row.invariant.taking c.loop-row-test.true
 
 pub overflow_mul-term : goal.overflow_mul-term
 overflow_mul-term c =
-    let i = c.loop-row.invariant in
-    let h = term_fits i c.loop-row-test.true in
-    let l = i.taking.table.accepted.most in omega arith
+    let h = term_fits c.loop-row.invariant c.loop-row-test.true in omega arith
 
 pub nonzero_rem-rest : goal.nonzero_rem-rest
 nonzero_rem-rest c = denominator_positive c.loop-row.invariant.taking c.loop-row-test.true
@@ -50,8 +31,6 @@ pub loop-row-preserved : goal.loop-row-preserved
 loop-row-preserved c = rw c.subtract-residue.ensures (reducing_next c.loop-row.invariant c.loop-row-test.true)
 
 pub returns : goal.returns
+unfolding residue_answer
 returns c =
-    let i = c.loop-row.invariant in
-    let t = i.taking in
-    sym (((residue_answer_correct _ _ _).found _).1
-    (none_refused t.table.accepted t.within, residue_made i c.loop-row-test.false))
+    ap Ok (residue_made c.loop-row.invariant (omega arith)) ∙ shown_alike _ _ _ (sym c.in_ok-table.ensures)
