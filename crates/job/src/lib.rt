@@ -5,8 +5,8 @@
 #![tactic(auto)]
 
 ghost use Rattle.std.specs.Prelude.{◌≡◌, length};
-ghost use Rattle.std.proofs.lemmas.List.Edits.{sets};
-ghost use Rattle.numbers.specs.Lists.{overwrite_front, place_after};
+ghost use Rattle.numbers.specs.Lists.{overwrite_front};
+ghost use Rattle.text.specs.Writing.{Wrote};
 ghost use Rattle.job.specs.Reading.{lines_from, reading};
 ghost use Rattle.job.specs.Output.{job_answer, job_marks, job_list, job_values, output_with, output_of, longest};
 
@@ -14,6 +14,7 @@ mod report;
 
 use domain::Domain;
 use report::{put_refusal, put_report};
+use text::Writer;
 
 // The longest answer: 4,096 arguments of sixteen digits with values of nineteen.
 pub const LONGEST: usize = 213034;
@@ -60,13 +61,14 @@ pub fn run_job(text: &[u8], out: &mut [u8; LONGEST]) -> usize
     ensures written { out.new ≡ overwrite_front (output_of text.now) out.old }
     ensures room { length out.old ≡ longest }
 {
-    print_answer(read_job(text), out)
+    let mut writer = Writer::new(out);
+    print_answer(read_job(text), &mut writer);
+    writer.written()
 }
 
 // Prints the answer to a job, or the refusal of a text that is none.
-fn print_answer(job: Option<Domain>, out: &mut [u8]) -> usize
-    ensures place { result ≡ place_after 0 (output_with job) out.old }
-    ensures written { out.new ≡ sets out.old 0 (output_with job) }
+fn print_answer(job: Option<Domain>, out: &mut Writer)
+    ensures { Wrote out.old (output_with job) out.new }
 {
     let mut marks = [0u8; 8];
     let mut list = [0u64; 4096];

@@ -2,6 +2,7 @@
 ghost use Rattle.std.specs.Prelude.{◌≡◌, ◌≤◌, [], ◌∷◌, length};
 
 // A buffer, and the place from which on it is written, as far as it has places.
+#[derive(Drop)]
 pub struct Writer<'a> {
     out: &'a mut [u8],
     at: usize,
@@ -30,8 +31,7 @@ impl<'a> Writer<'a> {
 
     // Writes bytes, as far as there are places.
     pub fn put(&mut self, bytes: &[u8])
-        ensures same_buffer { self.new.out.ghost_name ≡ self.old.out.ghost_name }
-        ensures wrote { Wrote self.old bytes.now self.new }
+        ensures { Wrote self.old bytes.now self.new }
     {
         let n = bytes.len().min(self.out.len() - self.at);
         self.out[self.at..self.at + n].copy_from_slice(&bytes[..n]);
@@ -40,8 +40,7 @@ impl<'a> Writer<'a> {
 
     // The same for one byte.
     pub fn put_byte(&mut self, x: u8)
-        ensures same_buffer { self.new.out.ghost_name ≡ self.old.out.ghost_name }
-        ensures wrote { Wrote self.old (x ∷ []) self.new }
+        ensures { Wrote self.old (x ∷ []) self.new }
     {
         if self.at < self.out.len() {
             self.out[self.at] = x;
@@ -52,8 +51,7 @@ impl<'a> Writer<'a> {
     // The same for a number in decimal. Division by ten gives the last digit first, so the digits fill an array of twenty bytes from its end; every
     // number below 2^64 fits.
     pub fn put_number(&mut self, n: u64)
-        ensures same_buffer { self.new.out.ghost_name ≡ self.old.out.ghost_name }
-        ensures wrote { Wrote self.old (decimal n) self.new }
+        ensures { Wrote self.old (decimal n) self.new }
     {
         let mut digits = [0u8; 20];
         let mut first = 19;
@@ -69,8 +67,7 @@ impl<'a> Writer<'a> {
 
     // The same for a name, a number and a line feed.
     pub fn put_line(&mut self, name: &[u8], n: u64)
-        ensures same_buffer { self.new.out.ghost_name ≡ self.old.out.ghost_name }
-        ensures wrote { Wrote self.old (line name.now (decimal n) []) self.new }
+        ensures { Wrote self.old (line name.now (decimal n) []) self.new }
     {
         self.put(name);
         self.put_number(n);

@@ -3,6 +3,6 @@
 use Rattle.text.proofs.Writing.{wrote_more}
 use Rattle.text.proofs.writer.Writer.put_line.Goals as goal
 
-pub returns-clause-wrote : goal.returns-clause-wrote
-returns-clause-wrote c =
-    wrote_more _ _ c.put.ensures.wrote (wrote_more _ _ c.put_number.ensures.wrote c.put_byte.ensures.wrote)
+pub returns : goal.returns
+returns c =
+    wrote_more _ _ c.put.ensures (wrote_more _ _ c.put_number.ensures c.put_byte.ensures)

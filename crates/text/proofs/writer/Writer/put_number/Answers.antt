@@ -6,5 +6,5 @@ use Rattle.text.proofs.writer.Writer.put_number.Goals as goal
 pub loop-left-preserved : goal.loop-left-preserved
 loop-left-preserved c = digit_written c.loop-left.invariant c.loop-left-test.true
 
-pub returns-clause-wrote : goal.returns-clause-wrote
-returns-clause-wrote c = rw (first_written c.loop-left.invariant (omega arith)) at c.put.ensures.wrote
+pub returns : goal.returns
+returns c = rw (first_written c.loop-left.invariant (omega arith)) at c.put.ensures
