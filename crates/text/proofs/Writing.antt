@@ -1,7 +1,5 @@
 -- Bytes that are written as far as there are places; and pieces that are written one after another. Assumes nothing.
 use mathlib.Core.Path.{◌≡◌, refl, sym, ap}
-use mathlib.Core.Logic.{by_cases}
-use native.Mathlib.Decide.{dec_le}
 use mathlib.Core.List.{List, [], ◌++◌, append-nil}
 use Prim.Native.Nat.{ℕ, ◌+◌, ◌-◌, ◌≤◌, min}
 use native.Mathlib.Omega.{arith}
@@ -23,7 +21,7 @@ pub front_written : (bytes old part : List ℕ) (at n : ℕ) → at ≤ length o
 front_written bytes old part at n h m p =
     let l : length (take n bytes) ≡ n = omega (arith, length-take n bytes) in
     let now : put_mid at (at + n - at) old part ≡ sets old at (take n bytes) =
-        rw (p, sets-eq (take n bytes) old at (omega arith)) (grind (arith, common_steps)) in
+    rw (p, sets-eq (take n bytes) old at (omega arith)) (grind (arith, common_steps)) in
     let cut = clip_restate (sym (take-append-drop n bytes)) (clip_begin bytes old at) in
     let front = clip_list (take n bytes) (drop n bytes) cut (the_place l, refl) in
     now ∙ (clip_full front (omega (arith, length-drop n bytes, length-sets old at (take n bytes)))).1

@@ -8,9 +8,8 @@ ghost use Rattle.text.specs.Reading.{field_at, signed_field_at};
 mod reading;
 mod writer;
 
-pub use writer::Writer;
-
 use reading::{after_name, number, opposite, unsigned};
+pub use writer::Writer;
 
 // A name, a number below 2^64 and a line feed: no sign, no space, no leading zero but in 0 itself.
 // Tells the number and the place after the line feed.

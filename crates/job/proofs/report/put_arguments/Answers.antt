@@ -1,5 +1,5 @@
 -- `job::report::put_arguments` meets its contract. Assumes nothing.
-use Rattle.std.proofs.Common.{◌∙◌, ap, ◌++◌, append_assoc, sym, List, ℕ, append-nil}
+use Rattle.std.proofs.Common.{◌∙◌, append_assoc, sym, append-nil}
 use Rattle.std.proofs.lemmas.Slice.Zip.{Zip-more, either_empty_from_Zip}
 use Rattle.text.proofs.Laws.{wrote_more}
 use Rattle.job.proofs.Reports.{argument_then, no_lines}

@@ -1,6 +1,6 @@
 -- `job::report::put_report` meets its contract: its four pieces, one after the other.
 -- Assumes nothing.
-use Rattle.text.specs.Text.{bytes, decimal}
+use Rattle.text.specs.Text.{bytes}
 use Rattle.text.proofs.Laws.{wrote_more}
 use Rattle.job.specs.Output.{verdict_name, mark_digits, report}
 use Rattle.job.proofs.Reports.{line_then}
