@@ -1,7 +1,8 @@
 // The text of a job: read strictly, run, and its answer printed; bytes in, bytes out.
 //
-// A job names a domain on seven lines in fixed order, origin=, modulus=, value=, slope=, curve=, count= and window=, each with a decimal number and a
-// line feed; the first line may be left out, and the origin is 0 then. All else is refused by 8, before all other refusals.
+// A job names a domain on seven lines in fixed order, origin=, modulus=, value=, slope=, curve=,
+// count= and window=, each with a decimal number and a line feed; the first line may be left out, and
+// the origin is 0 then. All else is refused by 8, before all other refusals.
 #![tactic(auto)]
 
 ghost use Rattle.std.specs.Prelude.{◌≡◌, length};
@@ -19,8 +20,9 @@ use text::Writer;
 // The longest answer: 4,096 arguments of sixteen digits with values of nineteen.
 pub const LONGEST: usize = 213034;
 
-// Reads a job, where a text is one: no space, no sign but a minus before a curve that is not 0, no leading zero but in 0 itself, numbers below
-// 2^64, a curve's size below 2^63, nothing after the line feed of the window. Without the line of the origin the text begins with that of the modulus.
+// Reads a job, where the text is one: no space, no sign but a minus before a curve that is not 0, no
+// leading zero but in 0 itself, numbers below 2^64, a curve's size below 2^63, nothing after the line
+// feed of the window. Without the line of the origin the text begins with that of the modulus.
 #[tactic(auto, unfolding(crate::specs::Reading::reading))]
 pub fn read_job(text: &[u8]) -> Option<Domain>
     ensures { result ≡ reading text.now }
@@ -54,8 +56,9 @@ fn read_lines(text: &[u8], at: usize, origin: u64) -> Option<Domain>
     })
 }
 
-// Runs the job of a text and prints the answer from the first place of the buffer on; the places after it are left as they were. Tells how
-// many bytes it printed. The buffer is as large as the longest answer, of 4,096 arguments and their values.
+// Runs the job of a text and prints the answer from the first place of the buffer on; the places
+// after it are left as they were. Tells how many bytes it printed. The buffer is as large as the
+// longest answer, of 4,096 arguments and their values.
 pub fn run_job(text: &[u8], out: &mut [u8; LONGEST]) -> usize
     ensures count { result ≡ length (output_of text.now) }
     ensures written { out.new ≡ overwrite_front (output_of text.now) out.old }

@@ -1,9 +1,10 @@
-// What is printed of a job: the line of a refusal; or phase 1's verdict, the marks, and the hard arguments with their values. Each name that is
-// printed stands here, and once.
+// What is printed of a job: the line of a refusal; or phase 1's verdict, the marks, and the hard
+// arguments with their values. Each name that is printed stands here, and once.
 ghost use Rattle.std.specs.Prelude.{[]};
 ghost use Rattle.text.specs.Text.{bytes, line};
 ghost use Rattle.text.specs.Writing.{Wrote};
-ghost use Rattle.job.specs.Output.{verdict_name, SmallMarks, mark_digits, argument_lines, refused, report};
+ghost use Rattle.job.specs.Output.{verdict_name, SmallMarks, mark_digits, argument_lines};
+ghost use Rattle.job.specs.Output.{refused, report};
 
 use text::Writer;
 

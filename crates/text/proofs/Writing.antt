@@ -31,9 +31,6 @@ front_written bytes old part at n h m p =
 
 -- ---- one after another
 
-pub wrote_none : (w : Writer) → Wrote w [] w
-wrote_none w = record { place = omega arith; bytes = refl; same_buffer = refl }
-
 pub wrote_more : {old mid new : Writer} (xs ys : List ℕ) → Wrote old xs mid → Wrote mid ys new → Wrote old (xs ++ ys) new
 wrote_more {old} xs ys v w =
     let begun = clip_restate (ap (λ (l : List ℕ). xs ++ l) (sym (append-nil ys))) (clip_begin (xs ++ ys) old.out.now old.at) in

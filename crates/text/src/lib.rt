@@ -1,5 +1,6 @@
-// Texts in bytes: fields with decimal numbers, read strictly from a place of a text on; and bytes, decimal numbers and lines, written into a
-// buffer from a place on. A field is a name, a number and a line feed.
+// Texts in bytes: fields with decimal numbers, read strictly from a place of a text on; and bytes,
+// decimal numbers and lines, written into a buffer one after another. A field is a name, a number
+// and a line feed.
 #![tactic(auto)]
 
 ghost use Rattle.std.specs.Prelude.{◌≡◌};
@@ -21,7 +22,8 @@ pub fn field(text: &[u8], at: usize, name: &[u8]) -> Option<(u64, usize)>
     number(rest, at + name.len())
 }
 
-// The same with a signed number whose size is below 2^63: a minus sign before one that is not 0, and no other sign.
+// The same with a signed number whose size is below 2^63: a minus sign before one that is not 0,
+// and no other sign.
 #[tactic(auto, using(crate::proofs::Names::minus_sign), unfolding(crate::specs::Reading::signed_field_at, crate::specs::Reading::signed_from))]
 pub fn signed_field(text: &[u8], at: usize, name: &[u8]) -> Option<(i64, usize)>
     ensures { result ≡ signed_field_at name.now at text.now }
