@@ -1,12 +1,13 @@
 // The text of a job: read strictly, run, and its answer printed; bytes in, bytes out.
 //
-// A job names a domain on seven lines in fixed order, origin=, modulus=, value=, slope=, curve=, count= and window=, each with a decimal number and a
-// line feed; the first line may be left out, and the origin is 0 then. All else is refused by 8, before all other refusals.
+// A job names a domain on seven lines in fixed order, origin=, modulus=, value=, slope=, curve=,
+// count= and window=, each with a decimal number and a line feed; the first line may be left out, and
+// the origin is 0 then. All else is refused by 8, before all other refusals.
 #![tactic(auto)]
 
 ghost use Rattle.std.specs.Prelude.{◌≡◌, length};
-ghost use Rattle.std.proofs.lemmas.List.Edits.{sets};
-ghost use Rattle.numbers.specs.Lists.{overwrite_front, place_after};
+ghost use Rattle.numbers.specs.Lists.{overwrite_front};
+ghost use Rattle.text.specs.Writing.{Wrote};
 ghost use Rattle.job.specs.Reading.{lines_from, reading};
 ghost use Rattle.job.specs.Output.{job_answer, job_marks, job_list, job_values, output_with, output_of, longest};
 
@@ -14,12 +15,14 @@ mod report;
 
 use domain::Domain;
 use report::{put_refusal, put_report};
+use text::Writer;
 
 // The longest answer: 4,096 arguments of sixteen digits with values of nineteen.
 pub const LONGEST: usize = 213034;
 
-// Reads a job, where a text is one: no space, no sign but a minus before a curve that is not 0, no leading zero but in 0 itself, numbers below
-// 2^64, a curve's size below 2^63, nothing after the line feed of the window. Without the line of the origin the text begins with that of the modulus.
+// Reads a job, where the text is one: no space, no sign but a minus before a curve that is not 0, no
+// leading zero but in 0 itself, numbers below 2^64, a curve's size below 2^63, nothing after the line
+// feed of the window. Without the line of the origin the text begins with that of the modulus.
 #[tactic(auto, unfolding(crate::specs::Reading::reading))]
 pub fn read_job(text: &[u8]) -> Option<Domain>
     ensures { result ≡ reading text.now }
@@ -53,20 +56,22 @@ fn read_lines(text: &[u8], at: usize, origin: u64) -> Option<Domain>
     })
 }
 
-// Runs the job of a text and prints the answer from the first place of the buffer on; the places after it are left as they were. Tells how
-// many bytes it printed. The buffer is as large as the longest answer, of 4,096 arguments and their values.
+// Runs the job of a text and prints the answer from the first place of the buffer on; the places
+// after it are left as they were. Tells how many bytes it printed. The buffer is as large as the
+// longest answer, of 4,096 arguments and their values.
 pub fn run_job(text: &[u8], out: &mut [u8; LONGEST]) -> usize
     ensures count { result ≡ length (output_of text.now) }
     ensures written { out.new ≡ overwrite_front (output_of text.now) out.old }
     ensures room { length out.old ≡ longest }
 {
-    print_answer(read_job(text), out)
+    let mut writer = Writer::new(out);
+    print_answer(read_job(text), &mut writer);
+    writer.written()
 }
 
 // Prints the answer to a job, or the refusal of a text that is none.
-fn print_answer(job: Option<Domain>, out: &mut [u8]) -> usize
-    ensures place { result ≡ place_after 0 (output_with job) out.old }
-    ensures written { out.new ≡ sets out.old 0 (output_with job) }
+fn print_answer(job: Option<Domain>, out: &mut Writer)
+    ensures { Wrote out.old (output_with job) out.new }
 {
     let mut marks = [0u8; 8];
     let mut list = [0u64; 4096];

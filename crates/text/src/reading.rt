@@ -1,6 +1,8 @@
 // Names and numbers, at the front of what is left of a text.
-ghost use Rattle.std.specs.Prelude.{◌≡◌, ◌+◌, ◌-◌, ◌*◌, ◌^◌, ◌≤◌, ◌<◌, max, true, false, length, drop, MatchOption, if◌then◌else◌};
-ghost use Rattle.text.specs.Reading.{starts, takes_digit, digits_from, number_from, unsigned, opposite};
+ghost use Rattle.std.specs.Prelude.{◌≡◌, ◌+◌, ◌-◌, ◌*◌, ◌^◌, ◌≤◌, ◌<◌, max, true, false};
+ghost use Rattle.std.specs.Prelude.{length, drop, MatchOption, if◌then◌else◌};
+ghost use Rattle.text.specs.Reading.{starts, takes_digit, digits_from, number_from};
+ghost use Rattle.text.specs.Reading.{unsigned, opposite};
 
 // What is left of a text after a name that stands at a place of it.
 pub(crate) fn after_name<'a>(text: &'a [u8], at: usize, name: &[u8]) -> Option<&'a [u8]>
@@ -13,7 +15,8 @@ pub(crate) fn after_name<'a>(text: &'a [u8], at: usize, name: &[u8]) -> Option<&
     text[at.min(text.len())..].strip_prefix(name)
 }
 
-// A number and its line feed, at a place of a text. Tells the number and the place after the line feed.
+// A number and its line feed, at a place of a text. Tells the number and the place after the line
+// feed.
 #[tactic(auto, unfolding(crate::specs::Reading::number_from))]
 pub(crate) fn number(rest: &[u8], at: usize) -> Option<(u64, usize)>
     requires { at + length rest.now < 2 ^ 64 }
