@@ -1,19 +1,30 @@
 -- `ostrowski::digits` meets its contract: a refusal, or the digits of an argument below the period.
 -- Assumes nothing.
-use Rattle.std.proofs.Common.{Ok, refl, sym, ap, ◌∙◌, rules, arith}
-use Rattle.numbers.proofs.Outcomes.{refused_alike}
+use Rattle.std.proofs.Common.{Ok, refl, ap, ◌∙◌, rules, arith}
+use Rattle.expansion.specs.Answer.{answer}
 use Rattle.ostrowski.specs.Answer.{digits_answer}
-use Rattle.ostrowski.proofs.Refusals.{shown_alike}
-use Rattle.ostrowski.proofs.Taking.{taking_first, taking_next, denominator_positive, none_written, digit_written, digits_written}
+use Rattle.ostrowski.proofs.Refusals.{argument_first}
+use Rattle.ostrowski.proofs.Taking.{tabled, few_rows, argument_refused, argument_accepted, taking_first, taking_next, denominator_positive, none_written, digit_written, digits_written}
 use Rattle.ostrowski.proofs.digits.Goals as goal
 
-pub returns-in_err-table : goal.returns-in_err-table
+pub returns-in_err-denominators : goal.returns-in_err-denominators
+unfolding answer digits_answer
+returns-in_err-denominators c = search (rules, argument_first)
+
+pub offset_bounds-denominators-last : goal.offset_bounds-denominators-last
+offset_bounds-denominators-last c = let h = few_rows (tabled c.in_ok-denominators.ensures) in omega arith
+
+pub bounds-denominators-last : goal.bounds-denominators-last
+bounds-denominators-last c = let h = few_rows (tabled c.in_ok-denominators.ensures) in omega arith
+
+pub returns-then-denominators-last : goal.returns-then-denominators-last
 unfolding digits_answer
-returns-in_err-table c = search (rules, refused_alike)
+returns-then-denominators-last c = argument_refused (tabled c.in_ok-denominators.ensures) _ c.if-denominators-last.true
 
 pub loop-row-init : goal.loop-row-init
 loop-row-init c =
-    let t = taking_first c.in_ok-table.ensures in record { taking = t; written = none_written t refl }
+    let t = taking_first (tabled c.in_ok-denominators.ensures) c.if-denominators-last.false in
+    record { taking = t; written = none_written t refl }
 
 pub nonzero_div-digits : goal.nonzero_div-digits
 nonzero_div-digits c = denominator_positive c.loop-row.invariant.taking c.loop-row-test.true
@@ -33,4 +44,4 @@ pub returns : goal.returns
 unfolding digits_answer
 returns c =
     let i = c.loop-row.invariant in
-    ap Ok (digits_written i.taking (omega arith) i.written) ∙ shown_alike _ _ _ (sym c.in_ok-table.ensures)
+    ap Ok (digits_written i.taking (omega arith) i.written) ∙ argument_accepted i.taking _

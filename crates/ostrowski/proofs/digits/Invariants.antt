@@ -7,6 +7,6 @@ use Rattle.ostrowski.proofs.digits.Given as goal
 
 abbrev pub invariant-loop-row : goal.invariant-loop-row
 invariant-loop-row l = record {
-  taking : Taking l.modulus l.step l.argument l.table l.rest l.row;
+  taking : Taking l.modulus l.step l.argument l.denominators l.last l.rest l.row;
   written : AgreesFrom (digits_goal l.modulus l.step l.argument) l.digits l.row;
 }
