@@ -1,6 +1,6 @@
 -- The covering segment of a parabola within its bounds is accepted by both searches; a verdict that clears it leaves no hard argument.
 -- Assumes nothing.
-use mathlib.Core.Path.{◌≡◌, refl, sym, ◌∙◌}
+use mathlib.Core.Path.{◌≡◌, refl, sym, ◌∙◌, ap}
 use mathlib.Core.Logic.{by_cases}
 use Prim.Native.Nat.{ℕ, zero, suc, ◌+◌, ◌-◌, ◌≤◌, ◌<◌}
 use native.Mathlib.Nat.{mod-lt}
@@ -13,6 +13,7 @@ use Rattle.segment.specs.Accepted.{Accepted}
 use Rattle.segment.specs.Search.{verdict}
 use Rattle.segment.specs.Answer.{fine_answer, fine_shown}
 use Rattle.segment.specs.Answer.{regular_verdict as segment_verdict}
+use Rattle.segment.specs.declared.Verdict.{Verdict}
 use Rattle.segment.specs.declared.Verdict.TheVariants.{Clear, Possible}
 use Rattle.segment.specs.declared.Fine.{Fine}
 use Rattle.segment.specs.declared.FineAnswer.{FineAnswer}
@@ -25,6 +26,7 @@ use Rattle.parabola.proofs.Promises as parabola_promises
 use Rattle.arc.specs.Arc.{parabola, refusal, verdict_with, arc_verdict, covering_numbers}
 use Rattle.arc.specs.declared.Arc.{Arc}
 use Rattle.arc.specs.declared.covering.Covering.{Covering}
+use Rattle.arc.specs.declared.within.Within.{Within}
 use Rattle.arc.proofs.Refusals.{accepted}
 
 module _ {p : Parabola} (range : InRange p) where
@@ -65,9 +67,9 @@ module _ {p : Parabola} (range : InRange p) {c : Covering} (e : c ≡ covering_n
 -- ---- the verdict of an arc
 
 -- outside the bounds it is possible
-pub never_cleared : (k : Search) (a : Arc) → (refusal (parabola a) ≡ 0 → ⊥) → Possible ≡ arc_verdict k a
+pub never_cleared : (k : Search) (a : Arc) → (InRange (parabola a) → ⊥) → Possible ≡ arc_verdict k a
 unfolding arc_verdict
-never_cleared k a h = by (refusal (parabola a)) h
+never_cleared k a h = by (refusal (parabola a)) (λ e. h ((accepted (parabola a)).0 e))
   where
     by : (n : ℕ) → (n ≡ 0 → ⊥) → Possible ≡ verdict_with n k (parabola a)
     by zero h = absurd (h refl)
@@ -76,3 +78,7 @@ never_cleared k a h = by (refusal (parabola a)) h
 pub verdict_within : (k : Search) (a : Arc) → InRange (parabola a) → arc_verdict k a ≡ verdict k (covering (parabola a))
 unfolding arc_verdict verdict_with
 verdict_within k a range = rw ((accepted (parabola a)).1 range)
+
+-- within them it is the search's
+pub verdict_is : (k : Search) {a : Arc} {v : Verdict} (w : Within) → w.arc ≡ a → v ≡ verdict k (covering (parabola w.arc)) → v ≡ arc_verdict k a
+verdict_is k w e f = f ∙ sym (verdict_within k w.arc w.in_range) ∙ ap (arc_verdict k) e

@@ -1,12 +1,9 @@
 -- A parabola is within the bounds exactly where no number refuses it. Assumes nothing.
 use mathlib.Core.Path.{◌≡◌, refl, sym, ◌∙◌}
-use mathlib.Core.Bool.{Bool, true, false, not}
 use mathlib.Core.Logic.{◌↔◌, inl}
 use Prim.Native.Nat.{ℕ, suc, ◌≤◌, ◌<◌}
 use native.Mathlib.Omega.{arith}
-use lib.Dec.{eqb}
 use lib.IntN.{nat_abs}
-use borrow.Author.Tests.{eqb-true, eqb-false, not-true, not-false}
 use Rattle.numbers.specs.Checklist.{first_failing, RefusedBy}
 use Rattle.numbers.proofs.Checklists.{accepts, refuses, first_of_two, second_of_two}
 use Rattle.numbers.proofs.Checklists.{accepted as all_accepted, refused as first_refused}
@@ -39,12 +36,3 @@ module _ (p : Parabola) {n : ℕ} (e : n ≡ segment.refusal (line_of p)) where
 
   pub within : n ≡ 0 → nat_abs p.curve ≤ 1048576 → 0 ≡ refusal p
   within z h = sym (by_curve z ∙ all_accepted (curve_checks p) (h, tt))
-
--- ---- from the test of an arc
-
-module _ (p : Parabola) {test : Bool} (e : test ≡ eqb (refusal p) 0) where
-  pub test_passed : not test ≡ false → InRange p
-  test_passed f = (accepted p).0 (eqb-true (refusal p) 0 (sym e ∙ not-false test f))
-
-  pub test_failed : not test ≡ true → refusal p ≡ 0 → ⊥
-  test_failed f = eqb-false (refusal p) 0 (sym e ∙ not-true test f)

@@ -1,5 +1,5 @@
 -- An arc: which parabola it is, which parabolas are within the bounds, and what the calls answer. Assumes nothing: these are definitions.
-use Rattle.std.specs.Prelude.{List, [], ◌∷◌, ◌++◌, ℕ, zero, suc, ℤ, nat_abs}
+use Rattle.std.specs.Prelude.{List, [], ◌∷◌, ◌++◌, ℕ, zero, suc, ℤ, nat_abs, Option, Some, None}
 use Rattle.std.proofs.Math.Decide.{dec_le, dec_lt}
 use Rattle.numbers.specs.Checklist.{Check, check, first_failing}
 use Rattle.expansion.specs.Reached.{Search}
@@ -10,8 +10,7 @@ use Rattle.segment.specs.declared.Verdict.{Verdict}
 use Rattle.segment.specs.declared.Verdict.TheVariants.{Possible}
 use Rattle.parabola.specs.Parabola.{Parabola, value_at, slope_at, covering_step, covering_start, covering_window, covering}
 use Rattle.arc.specs.declared.Arc.{Arc}
-use Rattle.arc.specs.declared.PointAnswer.{PointAnswer}
-use Rattle.arc.specs.declared.PointAnswer.TheVariants.{Outside, At}
+use Rattle.arc.specs.declared.Point.{Point}
 use Rattle.arc.specs.declared.covering.Covering.{Covering}
 
 -- the parabola of a call, from its modulus, value, slope, curve, count and window
@@ -41,16 +40,20 @@ refusal p = first_failing (checks p)
 
 -- ---- points
 
--- V(x) and the slope there, where nothing refuses
-unfoldable pub point_with : (number : ℕ) → Parabola → (x : ℕ) → PointAnswer
-point_with zero p x = At (value_at p x) (slope_at p x)
-point_with (suc n) p x = Outside
+-- V(x) and the slope there
+abbrev pub point : Parabola → (x : ℕ) → Point
+point p x = record { value = value_at p x; slope = slope_at p x }
+
+-- where nothing refuses
+unfoldable pub point_with : (number : ℕ) → Parabola → (x : ℕ) → Option Point
+point_with zero p x = Some (point p x)
+point_with (suc n) p x = None
 
 -- x must be one of the arguments
 abbrev pub argument_checks : Parabola → (x : ℕ) → List Check
 argument_checks p x = checks p ++ check 7 (dec_lt x p.count) ∷ []
 
-unfoldable pub point_answer : Arc → (x : ℕ) → PointAnswer
+unfoldable pub point_answer : Arc → (x : ℕ) → Option Point
 point_answer a x = point_with (first_failing (argument_checks (parabola a) x)) (parabola a) x
 
 -- ---- verdicts

@@ -1,5 +1,5 @@
 -- What is promised of parabolas within the bounds of the code, and of arcs. `Promised`, at the end, is all of it; proofs/Promises.antt proves it. Assumes nothing: these are statements.
-use Rattle.std.specs.Prelude.{◌≡◌, List, [], ◌∷◌, ◌↔◌, ℕ, suc, ◌-◌, ◌*◌, ◌/◌, ◌^◌, ◌≤◌, ◌<◌, ℤ, pos, nat_abs, ◌+ℤ◌, ◌*ℤ◌}
+use Rattle.std.specs.Prelude.{◌≡◌, List, [], ◌∷◌, ◌↔◌, ℕ, suc, ◌-◌, ◌*◌, ◌/◌, ◌^◌, ◌≤◌, ◌<◌, ℤ, pos, nat_abs, ◌+ℤ◌, ◌*ℤ◌, Some, None}
 use Rattle.numbers.specs.Checklist.{Condition, condition, RefusedBy}
 use Rattle.numbers.specs.Integers.{◌modulo◌}
 use Rattle.expansion.specs.Reached.{Search}
@@ -9,7 +9,6 @@ use Rattle.segment.specs.declared.Verdict.TheVariants.{Clear}
 use Rattle.parabola.specs.Parabola.{Parabola, InRange, value_at, covering}
 use Rattle.arc.specs.Arc.{asked, parabola, refusal, point_answer, arc_verdict}
 use Rattle.arc.specs.declared.Arc.{Arc}
-use Rattle.arc.specs.declared.PointAnswer.TheVariants.{Outside, At}
 
 -- ---- bounds
 
@@ -43,11 +42,13 @@ pub record ArcCorrect (a : Arc) : Type 0 where
   pub numbers : ((parabola a).unit ≡ a.modulus) × ((parabola a).value ≡ a.value) × ((parabola a).slope ≡ a.slope) × ((parabola a).curve ≡ a.curve)
       × ((parabola a).count ≡ a.count)
   pub highest : (v : ℕ) → (v < (parabola a).window) ↔ (v ≤ a.highest)
-  -- V(x) is c0 + c1·x + s·x(x-1)/2 modulo M and the slope c1 + s·x modulo M, at the arguments of an arc within the bounds; elsewhere is outside
+  -- V(x) is c0 + c1·x + s·x(x-1)/2 modulo M and the slope c1 + s·x modulo M, at the arguments of an arc within the bounds; elsewhere is none
   pub inside : (x : ℕ) → InRange (parabola a) → x < a.count
-      → point_answer a x ≡ At ((pos a.value +ℤ pos a.slope *ℤ pos x +ℤ a.curve *ℤ pos (x * (x - 1) / 2)) modulo a.modulus)
-      ((pos a.slope +ℤ a.curve *ℤ pos x) modulo a.modulus)
-  pub outside : (x : ℕ) → (point_answer a x ≡ Outside) ↔ (InRange (parabola a) → x < a.count → ⊥)
+      → point_answer a x ≡ Some (record {
+        value = (pos a.value +ℤ pos a.slope *ℤ pos x +ℤ a.curve *ℤ pos (x * (x - 1) / 2)) modulo a.modulus;
+        slope = (pos a.slope +ℤ a.curve *ℤ pos x) modulo a.modulus;
+      })
+  pub outside : (x : ℕ) → (point_answer a x ≡ None) ↔ (InRange (parabola a) → x < a.count → ⊥)
   -- within the bounds a verdict is that of a search of the covering segment; an arc outside them is never clear, and clear leaves no
   -- argument with a hard value
   pub verdict_is : (k : Search) → InRange (parabola a) → arc_verdict k a ≡ verdict k (covering (parabola a))

@@ -3,16 +3,16 @@
 // A domain and its parts are searched as arcs that are raised, so that this test is of both sides; a segment is an arc without a curve.
 #![tactic(auto)]
 
-ghost use Rattle.std.specs.Prelude.{◌≡◌, eqb};
+ghost use Rattle.std.specs.Prelude.{◌≡◌};
 ghost use Rattle.expansion.specs.Reached.Search.{regular, fine};
-ghost use Rattle.arc.specs.Arc.{asked, parabola, refusal, point_answer, arc_verdict};
+ghost use Rattle.arc.specs.Arc.{asked, refusal, point_answer, arc_verdict};
 
 mod covering;
 mod values;
+mod within;
 
-use covering::cover;
 use numbers::magnitude;
-use values::{slope_at, value_at};
+pub use within::Within;
 
 // `highest` is the highest hard value, one less than the window.
 #[derive(Clone, Copy)]
@@ -25,11 +25,11 @@ pub struct Arc {
     pub highest: u64,
 }
 
-// V(x) and the slope there, V(x + 1) - V(x); or x is not an argument of an arc within the bounds.
+// V(x) and the slope there, V(x + 1) - V(x).
 #[derive(Clone, Copy)]
-pub enum PointAnswer {
-    Outside,
-    At { value: u64, slope: u64 },
+pub struct Point {
+    pub value: u64,
+    pub slope: u64,
 }
 
 // Of a curve, without its sign.
@@ -50,36 +50,15 @@ pub fn refuse(modulus: u64, value: u64, slope: u64, curve: i64, count: u64, wind
     0
 }
 
-// Whether an arc is within the bounds: its highest hard value is below the modulus, so that its window fits a word, and nothing refuses its numbers.
-fn is_within(arc: Arc) -> bool
-    ensures { result ≡ eqb (refusal (parabola arc)) 0 }
-{
-    if arc.modulus <= arc.highest {
-        return false;
-    }
-    refuse(
-        arc.modulus,
-        arc.value,
-        arc.slope,
-        arc.curve,
-        arc.count,
-        arc.highest + 1,
-    ) == 0
-}
-
-pub fn point_at(arc: Arc, x: u64) -> PointAnswer
+// None where x is not an argument of an arc within the bounds.
+pub fn point_at(arc: Arc, x: u64) -> Option<Point>
     ensures { result ≡ point_answer arc x }
 {
-    if !is_within(arc) {
-        return PointAnswer::Outside;
-    }
+    let within = arc.within()?;
     if arc.count <= x {
-        return PointAnswer::Outside;
+        return None;
     }
-    PointAnswer::At {
-        value: value_at(arc, x),
-        slope: slope_at(arc, x),
-    }
+    Some(within.point_at(x))
 }
 
 // Whether the regular search clears the covering segment: then V(x) is above the highest hard value at every argument. An arc outside the bounds is
@@ -87,35 +66,18 @@ pub fn point_at(arc: Arc, x: u64) -> PointAnswer
 pub fn regular_verdict(arc: Arc) -> segment::Verdict
     ensures { result ≡ arc_verdict regular arc }
 {
-    if !is_within(arc) {
-        return segment::Verdict::Possible;
+    match arc.within() {
+        Some(within) => within.regular_verdict(),
+        None => segment::Verdict::Possible,
     }
-    let covering = cover(arc);
-    segment::regular_verdict(
-        arc.modulus,
-        covering.step,
-        covering.start,
-        arc.count,
-        covering.window,
-    )
 }
 
 // The same by the fine search.
 pub fn fine_verdict(arc: Arc) -> segment::Verdict
     ensures { result ≡ arc_verdict fine arc }
 {
-    if !is_within(arc) {
-        return segment::Verdict::Possible;
-    }
-    let covering = cover(arc);
-    match segment::fine_search(
-        arc.modulus,
-        covering.step,
-        covering.start,
-        arc.count,
-        covering.window,
-    ) {
-        segment::FineAnswer::Refused(_) => segment::Verdict::Possible,
-        segment::FineAnswer::Shown(shown) => shown.verdict,
+    match arc.within() {
+        Some(within) => within.fine_verdict(),
+        None => segment::Verdict::Possible,
     }
 }

@@ -1,7 +1,7 @@
--- `arc::covering::cover` meets its contract. Assumes nothing.
+-- `arc::within::Within::cover` meets its contract. Assumes nothing.
 use Rattle.parabola.specs.Parabola.{covering_step}
 use Rattle.arc.specs.Arc.{covering_numbers}
-use Rattle.arc.proofs.covering.cover.Goals as goal
+use Rattle.arc.proofs.within.Within.cover.Goals as goal
 
 pub returns : goal.returns
 unfolding covering_numbers covering_step
