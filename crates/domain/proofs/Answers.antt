@@ -23,7 +23,7 @@ use Rattle.segment.proofs.Promises as segment_promises
 use Rattle.parabola.specs.Parabola.{Parabola, InRange, value_at, centred, hard_list, covering, line}
 use Rattle.parabola.proofs.Laws.{positive}
 use Rattle.parabola.proofs.Promises as parabola_promises
-use Rattle.arc.specs.Arc.{parabola, arc_verdict}
+use Rattle.arc.specs.Arc.{parabola}
 use Rattle.arc.specs.Arc as arc
 use Rattle.arc.specs.declared.Arc.{Arc}
 use Rattle.arc.proofs.Promises as arc_promises
@@ -37,7 +37,7 @@ use Rattle.domain.specs.declared.DomainAnswer.TheVariants as domain_variants
 use Rattle.domain.specs.declared.ScanAnswer.{ScanAnswer}
 use Rattle.domain.specs.declared.ScanAnswer.TheVariants as scan_variants
 use Rattle.domain.specs.declared.phases.Report.{Report}
-use Rattle.domain.proofs.Parts.{none_listed, otherwise, verdict_is}
+use Rattle.domain.proofs.Parts.{none_listed, otherwise}
 
 -- ---- which domains are accepted
 
@@ -194,40 +194,31 @@ module _ (d : Domain) (old_marks old old_values : List ℕ) where
         ((accepts (own_checks d) (omega arith)).0 ((accepted_iff d).1 a))
 
     -- phase 1 clears it
-    pub domain_cleared : {b : Arc} → parabola b ≡ centred_of d → arc_verdict regular b ≡ Clear
+    pub domain_cleared : {p : Parabola} → p ≡ centred_of d → verdict regular (covering p) ≡ Clear
         → Answered d old_marks old old_values (domain_variants.Searched Clear 0) (replicate 8 0) old old_values
     unfolding domain_answer marks_after list_after values_after too_few answer_with unless_refused marks_by overwrite_front
-    domain_cleared {b} e c =
-        let r : InRange (parabola b) = rw e (searched_in_range d a.searchable) in
-        let v : verdict regular (covering_of d) ≡ Clear = ap (λ (p : Parabola). verdict regular (covering p)) (sym e) ∙ verdict_is b r regular c in
+    domain_cleared e c =
+        let v : verdict regular (covering_of d) ≡ Clear = ap (λ (p : Parabola). verdict regular (covering p)) (sym e) ∙ c in
         let nothing : hard_arguments d ≡ [] = none_listed regular (searched_in_range d a.searchable) v in
         let none : length (hard_arguments d) ≡ 0 = ap length nothing in
         rw (number_is, accepted (room (hard_arguments d) (length old) (length old_values)) ((omega arith, omega arith), tt), v, nothing) (refl, (refl, (refl, refl)))
 
-    -- or it does not
-    pub searched_requires : {b : Arc} → parabola b ≡ centred_of d → arc_verdict regular b ≡ Possible
-        → InRange (parabola b) × ((verdict regular (covering (parabola b)) ≡ Possible) × ((d.origin ≤ 2 ^ 52) × (d.window - 1 < b.modulus)))
-    unfolding centred
-    searched_requires {b} e c =
-        let r : InRange (parabola b) = rw e (searched_in_range d a.searchable) in
-        let unit : b.modulus ≡ d.modulus = ap (λ (p : Parabola). p.unit) e in
-        (r, (verdict_is b r regular c, (a.origin_within, omega (arith, a.searchable.window_low, a.searchable.window_high))))
-
-    -- it does not where every value is hard: then the first argument is
-    pub never_cleared : {b : Arc} → parabola b ≡ centred_of d → b.highest ≡ d.modulus - 1 → arc_verdict regular b ≡ Possible
+    -- or it does not: so it is where every value is hard, as then the first argument is
+    pub never_cleared : {b : Arc} → parabola b ≡ centred_of d → b.highest ≡ d.modulus - 1 → verdict regular (covering (parabola b)) ≡ Possible
     unfolding centred
     never_cleared {b} e h =
         let r : InRange (parabola b) = rw e (searched_in_range d a.searchable) in
         let unit : b.modulus ≡ d.modulus = ap (λ (p : Parabola). p.unit) e in
         let below = ((parabola_promises.promised).values (parabola b) (positive r)).in_range 0 in
-        otherwise _ (λ c. (((arc_promises.promised).arcs b).clear regular c).1 0 (r.count_low, omega (arith, below, unit, h)))
+        otherwise _ (λ c. ((arc_promises.promised).searched _ r).cleared regular c 0 (r.count_low, omega (arith, below, unit, h)))
 
     -- phases 2 and 3 search it
-    pub domain_searched : {p : Parabola} → p ≡ centred_of d → {answer : DomainAnswer} {new_marks new new_values : List ℕ}
-        → Leaves (too_few p (length old) (length old_values)) d.origin (d.window - 1) p old_marks old old_values answer new_marks new new_values
+    pub domain_searched : {p : Parabola} {raise origin : ℕ} → p ≡ centred_of d → raise ≡ d.window - 1 → origin ≡ d.origin
+        → {answer : DomainAnswer} {new_marks new new_values : List ℕ}
+        → Leaves (too_few p (length old) (length old_values)) origin raise p old_marks old old_values answer new_marks new new_values
         → Answered d old_marks old old_values answer new_marks new new_values
     unfolding domain_answer marks_after list_after values_after
-    domain_searched e l = rw number_is (rw (e, values_lowered d a.searchable) at l)
+    domain_searched e f g l = rw number_is (rw (e, f, g, values_lowered d a.searchable) at l)
 
 -- ---- scans
 

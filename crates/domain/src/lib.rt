@@ -3,22 +3,22 @@
 // listed, each as origin + x and with its value, and a domain that is cleared has none. A segment's is hard where its residue is less than the window, on one side.
 #![tactic(auto)]
 
-ghost use Rattle.std.specs.Prelude.{◌≡◌, ◌^◌, ◌≤◌, ◌<◌, length};
+ghost use Rattle.std.specs.Prelude.{◌≡◌, ◌-◌, length};
 ghost use Rattle.expansion.specs.Reached.Search.{regular};
 ghost use Rattle.segment.specs.Search.{verdict};
 ghost use Rattle.segment.specs.declared.Verdict.TheVariants.{Possible};
-ghost use Rattle.parabola.specs.Parabola.{InRange, covering};
+ghost use Rattle.segment.specs.Accepted as segment;
+ghost use Rattle.parabola.specs.Parabola.{covering, line};
 ghost use Rattle.arc.specs.Arc.{parabola};
-ghost use Rattle.domain.specs.Domain.{centred_of, Searchable};
+ghost use Rattle.domain.specs.Domain.{centred_of, Accepted};
 ghost use Rattle.domain.specs.Answer.{too_few, answer_with, marks_with, list_with, values_with, domain_answer, marks_after, list_after, values_after, scan_answer, scan_list_after, scan_values_after};
 
 mod phases;
 mod scan;
 
-use arc::Arc;
-use numbers::min;
-use phases::{examine_parts, list_parts};
-use scan::{add, count_hard, list_all, list_hard, subtract};
+use arc::{Arc, Within};
+use numbers::{add, min, subtract};
+use scan::{Scan, list_all};
 
 // 2^52.
 const LARGEST_ORIGIN: u64 = 4503599627370496;
@@ -72,25 +72,42 @@ pub fn scan_segment(
     if number != 0 {
         return ScanAnswer::Refused(number);
     }
-    let line = Arc {
-        modulus: modulus,
-        value: start,
-        slope: subtract(0, step, modulus),
-        curve: 0,
-        count: count,
-        highest: window - 1,
-    };
+    let line = line(modulus, step, start, count, window);
     let places = min(list.len() as u64, values.len() as u64);
-    let listed = count_hard(line);
+    let listed = line.count_hard();
     if places < listed as u64 {
         return ScanAnswer::Refused(7);
     }
     if listed as u64 == count {
-        list_all(line, list, values);
+        list_all(line.within, list, values);
         return ScanAnswer::Listed(listed);
     }
-    list_hard(line, 0, 0, listed, list, values, 0);
+    line.list_hard(listed, list, values, 0);
     ScanAnswer::Listed(listed)
+}
+
+// A segment that nothing refuses, as a line: it falls by the step, modulo M.
+fn line(modulus: u64, step: u64, start: u64, count: u64, window: u64) -> Scan
+    requires { segment.Accepted (segment.asked modulus step start count window) }
+    ensures made { parabola result.within.arc ≡ line (segment.asked modulus step start count window) }
+    ensures raise { result.raise ≡ 0 }
+    ensures begin { result.begin ≡ 0 }
+{
+    let within = Within {
+        arc: Arc {
+            modulus,
+            value: start,
+            slope: subtract(0, step, modulus),
+            curve: 0,
+            count,
+            highest: window - 1,
+        },
+    };
+    Scan {
+        within,
+        raise: 0,
+        begin: 0,
+    }
 }
 
 // Searches a domain in three phases: the whole of it; if that is possible, each of eight parts; and all arguments of the parts that are
@@ -126,72 +143,72 @@ pub fn search_domain(
     if LARGEST_ORIGIN < domain.origin {
         return DomainAnswer::Refused(11);
     }
-    let arc = centred(domain);
-    let raised_by = domain.window - 1;
+    let scan = centred(domain);
     // Where every value is hard, no search can clear the domain. docs/DECISIONS.md says why this is a call of its own.
-    if arc.highest == domain.modulus - 1 {
-        search_parts(arc, domain.origin, raised_by, marks, list, values)
+    if scan.within.arc.highest == domain.modulus - 1 {
+        search_parts(scan, marks, list, values)
     } else {
-        match arc::regular_verdict(arc) {
+        match scan.within.regular_verdict() {
             segment::Verdict::Clear => {
                 *marks = [0u8; 8];
-                return DomainAnswer::Searched {
+                DomainAnswer::Searched {
                     first: segment::Verdict::Clear,
                     listed: 0,
-                };
+                }
             }
-            segment::Verdict::Possible => {
-                search_parts(arc, domain.origin, raised_by, marks, list, values)
-            }
+            segment::Verdict::Possible => search_parts(scan, marks, list, values),
         }
     }
 }
 
 // What the phases search. Raised by w - 1, the values that lie less than w from a multiple of the modulus are those up to 2(w - 1), or all of them: one
 // test for both sides.
-fn centred(domain: Domain) -> Arc
-    requires { Searchable domain }
-    ensures { parabola result ≡ centred_of domain }
+fn centred(domain: Domain) -> Scan
+    requires { Accepted domain }
+    ensures made { parabola result.within.arc ≡ centred_of domain }
+    ensures raise { result.raise ≡ domain.window - 1 }
+    ensures begin { result.begin ≡ domain.origin }
 {
     let raise = domain.window - 1;
-    Arc {
-        modulus: domain.modulus,
-        value: add(domain.value, raise, domain.modulus),
-        slope: domain.slope,
-        curve: domain.curve,
-        count: domain.count,
-        highest: min(domain.modulus - 1, raise + raise),
+    let within = Within {
+        arc: Arc {
+            modulus: domain.modulus,
+            value: add(domain.value, raise, domain.modulus),
+            slope: domain.slope,
+            curve: domain.curve,
+            count: domain.count,
+            highest: min(domain.modulus - 1, raise + raise),
+        },
+    };
+    Scan {
+        within,
+        raise,
+        begin: domain.origin,
     }
 }
 
-// Phases 2 and 3 of an arc that phase 1 does not clear, and whose values were raised: the hard arguments are counted before anything is written. Each is listed as
-// origin + x.
+// Phases 2 and 3 of an arc that phase 1 does not clear: the hard arguments are counted before anything is written.
 fn search_parts(
-    arc: Arc,
-    origin: u64,
-    raise: u64,
+    scan: Scan,
     marks: &mut [u8; 8],
     list: &mut [u64],
     values: &mut [u64],
 ) -> DomainAnswer
-    requires in_range { InRange (parabola arc) }
-    requires not_cleared { verdict regular (covering (parabola arc)) ≡ Possible }
-    requires origin_bound { origin ≤ 2 ^ 52 }
-    requires raise_below { raise < arc.modulus }
-    ensures value { result ≡ answer_with (too_few (parabola arc) (length list.old) (length values.old)) (parabola arc) }
-    ensures marks_after { marks.new ≡ marks_with (too_few (parabola arc) (length list.old) (length values.old)) (parabola arc) marks.old }
-    ensures list_after { list.new ≡ list_with (too_few (parabola arc) (length list.old) (length values.old)) origin (parabola arc) list.old }
-    ensures values_after { values.new ≡ values_with (too_few (parabola arc) (length list.old) (length values.old)) raise (parabola arc) values.old }
+    requires { verdict regular (covering (parabola scan.within.arc)) ≡ Possible }
+    ensures value { result ≡ answer_with (too_few (parabola scan.within.arc) (length list.old) (length values.old)) (parabola scan.within.arc) }
+    ensures marks_after { marks.new ≡ marks_with (too_few (parabola scan.within.arc) (length list.old) (length values.old)) (parabola scan.within.arc) marks.old }
+    ensures list_after { list.new ≡ list_with (too_few (parabola scan.within.arc) (length list.old) (length values.old)) scan.begin (parabola scan.within.arc) list.old }
+    ensures values_after { values.new ≡ values_with (too_few (parabola scan.within.arc) (length list.old) (length values.old)) scan.raise (parabola scan.within.arc) values.old }
 {
     let places = min(list.len() as u64, values.len() as u64);
-    let report = examine_parts(arc);
+    let report = scan.examine_parts();
     if places < report.total as u64 {
         return DomainAnswer::Refused(7);
     }
     let found = report.marks;
     *marks = found;
     let hard = report.hard;
-    list_parts(arc, origin, raise, hard, list, values);
+    scan.list_parts(hard, list, values);
     DomainAnswer::Searched {
         first: segment::Verdict::Possible,
         listed: report.total,

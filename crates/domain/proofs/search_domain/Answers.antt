@@ -6,7 +6,7 @@ use mir.Val.{SFits, to_z, of_z}
 use Rattle.arc.specs.Arc.{asked, refusal}
 use Rattle.domain.specs.declared.Domain.{Domain}
 use Rattle.domain.specs.Domain.{parabola_of, Searchable, Accepted}
-use Rattle.domain.proofs.Answers.{searchable_iff, searched_requires, never_cleared, domain_refused, origin_refused, domain_cleared, domain_searched}
+use Rattle.domain.proofs.Answers.{searchable_iff, never_cleared, domain_refused, origin_refused, domain_cleared, domain_searched}
 use Rattle.domain.proofs.search_domain.Goals as goal
 
 module _ (d : Domain) {n : ℕ} (e : n ≡ refusal (asked d.modulus d.value d.slope (to_z w64 (of_z w64 d.curve)) d.count d.window)) (fits : SFits w64 d.curve) where
@@ -32,11 +32,8 @@ returns-then-domain-gt-LARGEST_ORIGIN c =
     let l = origin_refused c.args.domain c.args.marks.now c.args.list.now c.args.values.now (searchable c.args.domain c.refuse-number.ensures (search rules) c.if-number-ne0.false) c.if-domain-gt-LARGEST_ORIGIN.true in
     record { value = l.0; marks_after = l.1.0; list_after = l.1.1.0; values_after = l.1.1.1 }
 
-pub centred-arc-requires : goal.centred-arc-requires
-centred-arc-requires c = searchable c.args.domain c.refuse-number.ensures (search rules) c.if-number-ne0.false
-
-pub overflow_sub-raised_by : goal.overflow_sub-raised_by
-overflow_sub-raised_by c = (searchable c.args.domain c.refuse-number.ensures (search rules) c.if-number-ne0.false).window_low
+pub centred-scan-requires : goal.centred-scan-requires
+centred-scan-requires c = taken_on c.args.domain c.refuse-number.ensures (search rules) c.if-number-ne0.false c.if-domain-gt-LARGEST_ORIGIN.false
 
 pub overflow_sub-domain : goal.overflow_sub-domain
 overflow_sub-domain c = let s = searchable c.args.domain c.refuse-number.ensures (search rules) c.if-number-ne0.false in omega (arith, s.unit_within)
@@ -44,36 +41,32 @@ overflow_sub-domain c = let s = searchable c.args.domain c.refuse-number.ensures
 pub search_parts-requires : goal.search_parts-requires
 search_parts-requires c =
     let taken = taken_on c.args.domain c.refuse-number.ensures (search rules) c.if-number-ne0.false c.if-domain-gt-LARGEST_ORIGIN.false in
-    let r = searched_requires c.args.domain c.args.marks.now c.args.list.now c.args.values.now taken c.centred-arc.ensures
-    (never_cleared c.args.domain c.args.marks.now c.args.list.now c.args.values.now taken c.centred-arc.ensures c.if-arc-domain.true) in
-    record { in_range = r.0; not_cleared = r.1.0; origin_bound = r.1.1.0; raise_below = r.1.1.1 }
+    never_cleared c.args.domain c.args.marks.now c.args.list.now c.args.values.now taken c.centred-scan.ensures.made c.if-scan-domain.true
 
-pub returns-then-arc-domain : goal.returns-then-arc-domain
-returns-then-arc-domain c =
+pub returns-then-scan-domain : goal.returns-then-scan-domain
+returns-then-scan-domain c =
     let s = c.search_parts.ensures in
+    let e = c.centred-scan.ensures in
     let l = domain_searched c.args.domain c.args.marks.now c.args.list.now c.args.values.now
     (taken_on c.args.domain c.refuse-number.ensures (search rules) c.if-number-ne0.false c.if-domain-gt-LARGEST_ORIGIN.false)
-    c.centred-arc.ensures (s.value, (s.marks_after, (s.list_after, s.values_after))) in
+    e.made e.raise e.begin (s.value, (s.marks_after, (s.list_after, s.values_after))) in
     record { value = l.0; marks_after = l.1.0; list_after = l.1.1.0; values_after = l.1.1.1 }
 
 pub returns-in-Clear : goal.returns-in-Clear
 returns-in-Clear c =
     let l = domain_cleared c.args.domain c.args.marks.now c.args.list.now c.args.values.now
     (taken_on c.args.domain c.refuse-number.ensures (search rules) c.if-number-ne0.false c.if-domain-gt-LARGEST_ORIGIN.false)
-    c.centred-arc.ensures (sym c.regular_verdict.ensures ∙ c.in-Clear.is) in
+    c.centred-scan.ensures.made (sym c.regular_verdict.ensures ∙ c.in-Clear.is) in
     record { value = l.0; marks_after = l.1.0; list_after = l.1.1.0; values_after = l.1.1.1 }
 
 pub search_parts-requires-in-Possible : goal.search_parts-requires-in-Possible
-search_parts-requires-in-Possible c =
-    let r = searched_requires c.args.domain c.args.marks.now c.args.list.now c.args.values.now
-    (taken_on c.args.domain c.refuse-number.ensures (search rules) c.if-number-ne0.false c.if-domain-gt-LARGEST_ORIGIN.false)
-    c.centred-arc.ensures (sym c.regular_verdict.ensures ∙ c.in-Possible.is) in
-    record { in_range = r.0; not_cleared = r.1.0; origin_bound = r.1.1.0; raise_below = r.1.1.1 }
+search_parts-requires-in-Possible c = sym c.regular_verdict.ensures ∙ c.in-Possible.is
 
 pub returns-in-Possible : goal.returns-in-Possible
 returns-in-Possible c =
     let s = c.search_parts-in-Possible.ensures in
+    let e = c.centred-scan.ensures in
     let l = domain_searched c.args.domain c.args.marks.now c.args.list.now c.args.values.now
     (taken_on c.args.domain c.refuse-number.ensures (search rules) c.if-number-ne0.false c.if-domain-gt-LARGEST_ORIGIN.false)
-    c.centred-arc.ensures (s.value, (s.marks_after, (s.list_after, s.values_after))) in
+    e.made e.raise e.begin (s.value, (s.marks_after, (s.list_after, s.values_after))) in
     record { value = l.0; marks_after = l.1.0; list_after = l.1.1.0; values_after = l.1.1.1 }

@@ -1,11 +1,11 @@
--- `domain::scan::list_hard` meets its contract. Assumes nothing.
+-- `domain::scan::Scan::list_hard` meets its contract. Assumes nothing.
 use Rattle.std.proofs.Common.{refl, ap, arith, ◌<◌, ◌+◌, ℕ}
 use Rattle.domain.proofs.Scanning.{at_first, at_below, at_next, list_first, list_more, list_hit, list_miss, list_done}
-use Rattle.domain.proofs.scan.list_hard.Goals as goal
-use Rattle.domain.proofs.scan.list_hard.Goals.{then-value-arc, else-value-arc}
+use Rattle.domain.proofs.scan.Scan.list_hard.Goals as goal
+use Rattle.domain.proofs.scan.Scan.list_hard.Goals.{then-value-arc, else-value-arc}
 
 pub loop-at-init : goal.loop-at-init
-loop-at-init c = list_first (at_first c.requires.in_range c.remainder-second.ensures refl)
+loop-at-init c = list_first (at_first c.args.self.within.in_range c.remainder-second.ensures refl)
 
 pub next-point-requires : goal.next-point-requires
 next-point-requires c = at_below c.loop-at.invariant.point
@@ -16,8 +16,8 @@ bounds-list-at c = omega (arith, c.loop-at.invariant.arguments_column.writing.le
 pub subtract-requires : goal.subtract-requires
 subtract-requires c =
     let b = at_below c.loop-at.invariant.point in
-    let next_below : c.next-point.result.value < c.args.arc.modulus = rw c.next-point.ensures (at_below (at_next c.loop-at.invariant.point)).value_below in
-    (omega (arith, b.value_below, next_below), c.requires.raise_below)
+    let next_below : c.next-point.result.value < c.args.self.within.arc.modulus = rw c.next-point.ensures (at_below (at_next c.loop-at.invariant.point)).value_below in
+    (omega (arith, b.value_below, next_below), c.args.self.raise_below)
 
 pub bounds-values-at : goal.bounds-values-at
 bounds-values-at c = omega (arith, c.loop-at.invariant.values_column.writing.length_kept, c.loop-at-test.true, c.requires.values_room)
@@ -26,7 +26,7 @@ pub overflow_add-x : goal.overflow_add-x
 overflow_add-x c =
     let i = c.loop-at.invariant in
     let more = list_more i _ (ap (λ (n : ℕ). c.args.place + n) c.requires.number_counted) c.loop-at-test.true in
-    record { fits = omega (arith, i.begun, more, i.point.in_range.count_high, c.requires.begin_bound) }
+    record { fits = omega (arith, i.begun, more, c.args.self.end_bound) }
 
 pub loop-at-smaller : goal.loop-at-smaller
 loop-at-smaller c =

@@ -1,17 +1,17 @@
--- `domain::scan::count_hard` meets its contract. Assumes nothing.
+-- `domain::scan::Scan::count_hard` meets its contract. Assumes nothing.
 use Rattle.std.proofs.Common.{refl, arith}
 use Rattle.parabola.proofs.Laws.{positive}
 use Rattle.domain.proofs.Scanning.{at_first, at_below, count_all, count_first, count_next, count_done}
-use Rattle.domain.proofs.scan.count_hard.Goals as goal
+use Rattle.domain.proofs.scan.Scan.count_hard.Goals as goal
 
 pub overflow_sub-arc : goal.overflow_sub-arc
-overflow_sub-arc c = positive c.requires
+overflow_sub-arc c = positive c.args.self.within.in_range
 
 pub returns-then-arc : goal.returns-then-arc
-returns-then-arc c = count_all c.requires refl c.if-arc.true
+returns-then-arc c = count_all c.args.self.within.in_range refl c.if-arc.true
 
 pub loop-x-init : goal.loop-x-init
-loop-x-init c = count_first (at_first c.requires c.remainder-second.ensures refl)
+loop-x-init c = count_first (at_first c.args.self.within.in_range c.remainder-second.ensures refl)
 
 pub overflow_add-number : goal.overflow_add-number
 overflow_add-number c =
@@ -20,11 +20,6 @@ overflow_add-number c =
 
 pub next-point-requires : goal.next-point-requires
 next-point-requires c = at_below c.loop-x.invariant.at
-
-pub overflow_add-x : goal.overflow_add-x
-overflow_add-x c =
-    let n = count_next c.loop-x.invariant c.loop-x-test.true in
-    record { fits = omega (arith, n.within, n.at.in_range.count_high) }
 
 pub loop-x-preserved : goal.loop-x-preserved
 loop-x-preserved c = rw c.next-point.ensures (count_next c.loop-x.invariant c.loop-x-test.true)
