@@ -24,7 +24,7 @@ use Rattle.expansion.specs.Reached.Search.{fine}
 use Rattle.segment.specs.Search.{verdict}
 use Rattle.segment.specs.declared.Verdict.{Verdict}
 use Rattle.segment.specs.declared.Verdict.TheVariants.{Clear, Possible}
-use Rattle.parabola.specs.Parabola.{Parabola, InRange, triangle, value_at, slope_at, is_hard, hard_list, covering, continued, part, part_start, part_count}
+use Rattle.parabola.specs.Parabola.{Parabola, InRange, value_at, is_hard, hard_list, covering, continued, part, part_start, part_count}
 use Rattle.parabola.proofs.Promises.{promised}
 use Rattle.domain.specs.Scan.{listed_from, lowered, lowered_at, lowered_values}
 use Rattle.domain.specs.Phases.{mark_of, mark_with, part_mark, part_marks, hard_count, hard_counts, part_report, report}

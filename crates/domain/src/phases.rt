@@ -111,8 +111,7 @@ impl Scan {
         ensures values_after { values.new ≡ overwrite_front (lowered_values self.raise (parabola self.within.arc)) values.old }
     {
         let mut place: usize = 0;
-        for i in 0..8 {
-            let number = hard[i];
+        for (i, &number) in hard.iter().enumerate() {
             self.list_part(i as u64, number, list, values, place);
             place += number as usize;
         }

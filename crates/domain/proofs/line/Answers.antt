@@ -1,5 +1,5 @@
 -- `domain::line` meets its contract. Assumes nothing.
-use Rattle.std.proofs.Common.{◌≡◌, ◌+◌, ◌-◌, ◌%◌, ℕ, suc, ap, arith}
+use Rattle.std.proofs.Common.{◌≡◌, ◌+◌, ◌-◌, ◌%◌, ℕ, suc, arith}
 use native.Mathlib.Nat.{zero-add}
 use lib.IntN.{pos}
 use Rattle.segment.specs.Accepted.{asked, Accepted}
