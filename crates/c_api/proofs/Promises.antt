@@ -1,113 +1,36 @@
 -- What is promised of the C functions. Assumes nothing.
-use mathlib.Core.Path.{◌≡◌, refl, sym, ◌∙◌}
-use mathlib.Core.List.{List}
-use mathlib.Core.Logic.{◌↔◌}
-use Prim.Native.Nat.{ℕ, zero, suc}
-use native.Mathlib.Omega.{arith}
-use lib.ListN.{length}
-use Rattle.numbers.specs.Checklist.{unless_refused}
+use Rattle.std.proofs.Common.{◌≡◌, ◌↔◌, ℕ, zero, suc, List, length, Result, Ok, Err, refl, sym, ap, ◌∙◌, arith}
+use Rattle.numbers.specs.Refusals.{number_in}
+use Rattle.numbers.specs.declared.refusals.Refusal.{Refusal}
 use Rattle.numbers.proofs.Equivalences.{through}
 use Rattle.numbers.proofs.Checklists.{accepts, refuses, unrefused_new, refused_old}
+use Rattle.numbers.proofs.Outcomes.{failing_number}
 use Rattle.expansion.specs.Answer.{answer}
 use Rattle.expansion.specs.declared.Table.{Table}
-use Rattle.expansion.specs.declared.Answer.{Answer}
 use Rattle.ostrowski.proofs.Promises as ostrowski
-use Rattle.ostrowski.specs.declared.NumberAnswer.{NumberAnswer}
-use Rattle.ostrowski.specs.declared.NumberAnswer.TheVariants as number_variants
-use Rattle.ostrowski.specs.Answer.{argument_checks, target_checks, argument_refusal, target_refusal, number_answer_with, digits_answer, residue_answer, divide_answer, refusal_of}
+use Rattle.ostrowski.specs.Answer.{argument_checks, target_checks, argument_refusal, target_refusal, digits_answer, residue_answer, divide_answer}
 use Rattle.geometry.specs.Segment.{Segment, segment}
 use Rattle.segment.specs.Accepted as segments
-use Rattle.segment.specs.Answer.{regular_answer_with, fine_answer_with, regular_answer, fine_answer, regular_refusal, fine_refusal}
+use Rattle.segment.specs.Answer.{regular_answer, fine_answer}
 use Rattle.parabola.specs.Parabola.{Parabola}
 use Rattle.domain.specs.Domain.{centred_of}
 use Rattle.domain.specs.declared.Domain.{Domain}
-use Rattle.domain.specs.Answer.{domain_checks, domain_number, answer_with, domain_answer, marks_of, marks_after, list_after, values_after, domain_refusal, scan_checks, scan_number, scan_answer_with, scan_answer, scan_list_after, scan_values_after, scan_refusal}
-use Rattle.c_api.specs.Memory.{Delivered, digits_memory, count_memory, number_memory, verdict_number, regular_memory, fine_memory, scan_memory, domain_memory}
+use Rattle.domain.specs.Answer.{domain_checks, domain_number, domain_answer, marks_of, marks_after, list_after, values_after, scan_checks, scan_number, scan_answer, scan_list_after, scan_values_after}
+use Rattle.c_api.specs.Memory.{handed, Delivered, digits_memory, count_memory, number_memory, verdict_number, regular_memory, fine_memory, scan_memory, domain_memory}
 use Rattle.c_api.specs.Promise.{Promised}
+use Rattle.c_api.proofs.Memory.{unchanged}
 
 -- ---- the expansion
 
 -- what is handed over is the number, and the table that an answer has or the one that was there, column by column
-delivered : (e : Answer) {n k : ℕ} {old new table : Table} → e.refusal ≡ k → unless_refused e.refusal e.table old ≡ table
-    → Delivered e n old new
+delivered : (r : Result Table Refusal) {n k : ℕ} {old new table : Table} → number_in r ≡ k → handed (λ t. t) r old ≡ table
+    → Delivered r n old new
     ↔ ((n ≡ k) × (new.remainders ≡ table.remainders) × (new.denominators ≡ table.denominators) × (new.quotients ≡ table.quotients) × (new.last ≡ table.last))
-delivered e {n} {k} {old} {new} {table} z t = (
+delivered r {n} {k} {old} {new} {table} z t = (
   λ d. let same : new ≡ table = d.left ∙ t in (d.returned ∙ z, cc, cc, cc, cc),
   λ h. let same : new ≡ table = λ j. record { remainders = h.1 j; denominators = h.2 j; quotients = h.3 j; last = h.4 j } in
       record { returned = h.0 ∙ sym z; left = same ∙ sym t },
 )
-
--- ---- what a number makes of an answer
-
--- the number that an answer carries is the one that its checklist gives
-module _ (s : Segment) where
-  regular_number : (n : ℕ) → regular_refusal (regular_answer_with n s) ≡ n
-  unfolding regular_refusal regular_answer_with
-  regular_number zero = refl
-  regular_number (suc n) = refl
-
-  fine_number : (n : ℕ) → fine_refusal (fine_answer_with n s) ≡ n
-  unfolding fine_refusal fine_answer_with
-  fine_number zero = refl
-  fine_number (suc n) = refl
-
-  scan_number_is : (n : ℕ) → scan_refusal (scan_answer_with n s) ≡ n
-  unfolding scan_refusal scan_answer_with
-  scan_number_is zero = refl
-  scan_number_is (suc n) = refl
-
-number_is : (n y : ℕ) → refusal_of (number_answer_with n y) ≡ n
-unfolding refusal_of number_answer_with
-number_is zero y = refl
-number_is (suc n) y = refl
-
-number_unchanged : (r : NumberAnswer) (old : ℕ) {n : ℕ} → refusal_of r ≡ suc n → number_memory r old ≡ old
-unfolding refusal_of number_memory
-number_unchanged (number_variants.Refused k) old e = refl
-number_unchanged (number_variants.Found y) old e = absurd (omega (arith, e))
-
-number_left : {r : NumberAnswer} {y : ℕ} (old : ℕ) → r ≡ number_variants.Found y → number_memory r old ≡ y
-unfolding number_memory
-number_left old e = rw e refl
-
-domain_number_is : (p : Parabola) (n : ℕ) → domain_refusal (answer_with n p) ≡ n
-unfolding domain_refusal answer_with
-domain_number_is p zero = refl
-domain_number_is p (suc n) = refl
-
--- ---- the calls
-
-module _ (M a b N w n : ℕ) where
-  regular_unchanged : (old : List ℕ) → regular_refusal (regular_answer M a b N w) ≡ suc n → regular_memory (regular_answer M a b N w) old ≡ old
-  unfolding regular_answer regular_memory regular_answer_with
-  regular_unchanged old e = rw (sym (regular_number (segment M a b N w) (segments.refusal (segment M a b N w))) ∙ e)
-
-  fine_unchanged : (old : List ℕ) → fine_refusal (fine_answer M a b N w) ≡ suc n → fine_memory (fine_answer M a b N w) old ≡ old
-  unfolding fine_answer fine_memory fine_answer_with
-  fine_unchanged old e = rw (sym (fine_number (segment M a b N w) (segments.refusal (segment M a b N w))) ∙ e)
-
-  scan_unchanged : (list values : List ℕ) (old : ℕ) → scan_refusal (scan_answer M a b N w (length list) (length values)) ≡ suc n
-      → (scan_memory (scan_answer M a b N w (length list) (length values)) old ≡ old) × (scan_list_after M a b N w (length values) list ≡ list)
-      × (scan_values_after M a b N w (length list) values ≡ values)
-  unfolding scan_answer scan_memory scan_answer_with scan_list_after scan_values_after
-  scan_unchanged list values old e =
-      let f : scan_number (segment M a b N w) (length list) (length values) ≡ suc n = sym (scan_number_is (segment M a b N w) _) ∙ e in
-      let kept : scan_number (segment M a b N w) (length list) (length values) ≡ 0 → ⊥ = λ z. omega (arith, z, f) in
-      (rw f, refused_old _ _ list kept, refused_old _ _ values kept)
-
-domain_unchanged : (d : Domain) (n : ℕ) (marks list values searched : List ℕ) → domain_refusal (domain_answer d (length list) (length values)) ≡ suc n
-    → (marks_after d (length list) (length values) marks ≡ marks) × (list_after d (length values) list ≡ list) × (values_after d (length list) values ≡ values)
-    × (domain_memory (domain_answer d (length list) (length values)) searched ≡ searched)
-unfolding domain_answer domain_memory answer_with marks_after list_after values_after
-domain_unchanged d n marks list values searched e =
-    let f : domain_number d (length list) (length values) ≡ suc n = sym (domain_number_is (centred_of d) _) ∙ e in
-    let kept : domain_number d (length list) (length values) ≡ 0 → ⊥ = λ z. omega (arith, z, f) in
-    (refused_old _ _ marks kept, refused_old _ _ list kept, refused_old _ _ values kept, rw f)
-
-domain_marks : (d : Domain) (marks list values : List ℕ) → domain_refusal (domain_answer d (length list) (length values)) ≡ 0
-    → marks_after d (length list) (length values) marks ≡ marks_of d
-unfolding domain_answer marks_after
-domain_marks d marks list values e = unrefused_new _ marks (sym (domain_number_is (centred_of d) _) ∙ e)
 
 pub promised : Promised
 unfolding verdict_number digits_memory count_memory number_memory residue_answer divide_answer argument_refusal target_refusal regular_memory fine_memory scan_memory domain_memory regular_answer fine_answer scan_answer domain_answer segments.refusal scan_number domain_number

@@ -1,19 +1,22 @@
 -- The answer of the call: when each refusal is given, and what the table holds at each place. Assumes nothing.
-use mathlib.Core.Path.{◌≡◌, refl, sym, ◌∙◌, ap}
+use mathlib.Core.Path.{◌≡◌, refl, sym, ◌∙◌}
 use mathlib.Core.List.{map}
 use mathlib.Core.Logic.{◌↔◌, ◌⊎◌, inl, inr, ⊎_elim, by_cases}
-use Prim.Native.Nat.{ℕ, zero, suc, ◌^◌, ◌≤◌, ◌<◌}
+use Prim.Native.Nat.{ℕ, ◌^◌, ◌≤◌, ◌<◌}
 use native.Mathlib.Nat.{lt_of_not-le}
 use native.Mathlib.Decide.{dec_lt}
 use native.Mathlib.Omega.{arith}
 use lib.ListN.{get_or, length-map}
+use Rattle.std.proofs.Common.{IsOkAnd}
 use Rattle.numbers.specs.Lists.{zero_padded}
-use Rattle.numbers.proofs.Checklists.{refuses, accepts}
+use Rattle.numbers.specs.Checklist.{conditions}
+use Rattle.numbers.specs.Refusals.{named, IsNamed, number_in}
+use Rattle.numbers.proofs.Checklists.{AllNumbers, refuses, accepts}
+use Rattle.numbers.proofs.Outcomes.{outcome_number, failing_named, error_numbered, shown_holds}
 use Rattle.numbers.proofs.Equivalences.{through}
 use Rattle.numbers.proofs.Lists.{padded_places, padded_front, padded_after}
 use Rattle.expansion.specs.Rows.{Row, expansion, last, remainder_at, denominator_at, quotient_at}
-use Rattle.expansion.specs.Answer.{checks, refusal, places, table_of, refused, answer_with, answer}
-use Rattle.expansion.specs.declared.Answer.{Answer}
+use Rattle.expansion.specs.Answer.{checks, refusal, places, table_of, answer}
 use Rattle.expansion.specs.Promise.{ColumnCorrect, TableCorrect, AnswerCorrect}
 use Rattle.expansion.proofs.Length.{few_rows}
 use Rattle.expansion.proofs.RowLaws.{last_index}
@@ -47,20 +50,15 @@ module _ (M a : ℕ) where
     λ h. (refuses (checks M a) 1).1 (inr ((h.0, h.1), inl (refl, λ l. omega arith))),
   )
 
+  -- each number of the checklist is that of a refusal
+  pub all_named : AllNumbers IsNamed (conditions (checks M a))
+  unfolding named
+  all_named = (refl, (refl, tt))
+
   -- the answer has the number of the first condition that does not hold
-  pub number : refusal M a ≡ (answer M a).refusal
-  unfolding answer answer_with
-  number = elim (refusal M a) as (λ n. n ≡ (answer_with n M a).refusal) [ zero ↦ refl | suc n ↦ refl ]
-
-  -- a number that is not 0 refuses
-  pub answer_refused : {n : ℕ} → n ≡ refusal M a → (n ≡ 0 → ⊥) → refused n ≡ answer M a
-  unfolding answer answer_with
-  answer_refused {n} e h =
-      rw (← e) (elim n as (λ k. (k ≡ 0 → ⊥) → refused k ≡ answer_with k M a) [ zero ↦ λ z. absurd (z refl) | suc k ↦ λ z. refl ] h)
-
-  pub answer_accepted : refusal M a ≡ 0 → record { table = table_of (expansion M a); refusal = 0 } ≡ answer M a
-  unfolding answer answer_with
-  answer_accepted e = rw e
+  pub number : refusal M a ≡ number_in (answer M a)
+  unfolding answer refusal
+  number = sym (outcome_number _ (table_of (expansion M a)) (failing_named (checks M a) all_named))
 
 -- ---- the table
 
@@ -85,6 +83,10 @@ module _ (M a : ℕ) (small : a < M) (most : M ≤ 2 ^ 62) where
         last_index = refl;
       }
 
+table_answered : (M a : ℕ) → refusal M a ≡ 0 → TableCorrect M a (table_of (expansion M a)) → IsOkAnd (answer M a) (TableCorrect M a)
+unfolding answer
+table_answered M a e t = shown_holds (refusal M a) (TableCorrect M a) e t
+
 pub answer_correct : (M a : ℕ) → AnswerCorrect M a (answer M a)
 unfolding refusal
 answer_correct M a =
@@ -93,6 +95,6 @@ answer_correct M a =
       modulus_refused = through (sym (number M a)) (modulus_refused M a);
       step_refused = through (sym (number M a)) (step_refused M a);
       accepted = through (sym (number M a)) (accepted M a);
-      refused_empty = λ h. sym (ap (λ (x : Answer). x.table) (answer_refused M a refl (λ z. omega (arith, number M a))));
-      accepted_table = λ e. let h = (accepted M a).0 (number M a ∙ e) in rw (← answer_accepted M a (number M a ∙ e)) (table_correct M a h.2 h.1);
+      refused_empty = error_numbered (answer M a);
+      accepted_table = λ e. let h = (accepted M a).0 (number M a ∙ e) in table_answered M a (number M a ∙ e) (table_correct M a h.2 h.1);
     }

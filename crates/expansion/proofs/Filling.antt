@@ -7,7 +7,7 @@ use lib.ListN.{length, set, replicate, length-map}
 use Rattle.numbers.specs.Lists.{zero_padded}
 use Rattle.numbers.proofs.Buffers.{Writing, begin, restate, write_one, done, written_zeros}
 use Rattle.expansion.specs.Rows.{Row, row, rows, expansion, remainders, denominators, quotients}
-use Rattle.expansion.specs.Answer.{places, table_of, empty}
+use Rattle.expansion.specs.Answer.{places, table_of}
 use Rattle.expansion.specs.declared.Table.{Table}
 use Rattle.expansion.proofs.Unrolling.{unrolled, rows_next, rows_end, some_row}
 use Rattle.expansion.proofs.Recurrences.{Kept, kept_first, kept_next}
@@ -29,6 +29,10 @@ pub record Filled (M a : ℕ) (table : Table) (t u p q i : ℕ) : Type 0 where
 -- columns as a table whose last row is not known yet
 abbrev pub columns : (us qs ks : List ℕ) → Table
 columns us qs ks = record { remainders = us; denominators = qs; quotients = ks; last = 0 }
+
+-- a table before it is filled
+abbrev pub empty : Table
+empty = columns (replicate places 0) (replicate places 0) (replicate places 0)
 
 pub start : {M a : ℕ} → a < M → M ≤ 2 ^ 62 → Filled M a empty M a 0 1 0
 unfolding expansion

@@ -1,12 +1,13 @@
 -- What the call answers: the whole table, or a refusal (document 01: the ladder call). Assumes nothing: these are definitions.
-use Rattle.std.specs.Prelude.{List, [], ◌∷◌, ℕ, zero, suc, ◌-◌, length, replicate}
+use Rattle.std.specs.Prelude.{List, [], ◌∷◌, ℕ, ◌-◌, length, Result}
 use Rattle.std.proofs.Math.Decide.{dec_lt}
 use Rattle.numbers.specs.Checklist.{Check, check, first_failing}
+use Rattle.numbers.specs.Refusals.{outcome}
+use Rattle.numbers.specs.declared.refusals.Refusal.{Refusal}
 use Rattle.numbers.specs.Lists.{zero_padded}
 use Rattle.numbers.specs.Unit.{ranged}
 use Rattle.expansion.specs.Rows.{Row, expansion, remainders, denominators, quotients}
 use Rattle.expansion.specs.declared.Table.{Table}
-use Rattle.expansion.specs.declared.Answer.{Answer}
 
 -- what is asked of a modulus and a step, with the number of each refusal
 abbrev pub checks : (M a : ℕ) → List Check
@@ -30,19 +31,6 @@ table_of rs =
       last = length rs - 1;
     }
 
--- a table before it is filled
-abbrev pub empty : Table
-empty = record { remainders = replicate places 0; denominators = replicate places 0; quotients = replicate places 0; last = 0 }
-
--- a refusal: its number alone
-abbrev pub refused : (number : ℕ) → Answer
-refused n = record { table = empty; refusal = n }
-
--- the answer where the checklist gives this number
-unfoldable pub answer_with : (number M a : ℕ) → Answer
-answer_with zero M a = record { table = table_of (expansion M a); refusal = 0 }
-answer_with (suc n) M a = refused (suc n)
-
--- the answer for a modulus and a step
-unfoldable pub answer : (M a : ℕ) → Answer
-answer M a = answer_with (refusal M a) M a
+-- the answer for a modulus and a step: the table, or a refusal alone
+unfoldable pub answer : (M a : ℕ) → Result Table Refusal
+answer M a = outcome (refusal M a) (table_of (expansion M a))

@@ -1,9 +1,11 @@
 -- What is promised of the expansion, with the letters of document 01: M the modulus, a the step, m the last row's index, P the period.
 -- `Promised`, at the end, says for which numbers each record holds; proofs/Promises.antt proves it. Assumes nothing: these are statements.
-use Rattle.std.specs.Prelude.{◌≡◌, ◌↔◌, ◌⊎◌, ℕ, suc, ◌+◌, ◌-◌, ◌*◌, ◌/◌, ◌%◌, ◌^◌, ◌≤◌, ◌<◌, length, get_or, replicate}
+use Rattle.std.specs.Prelude.{◌≡◌, ◌↔◌, ◌⊎◌, ℕ, suc, ◌+◌, ◌-◌, ◌*◌, ◌/◌, ◌%◌, ◌^◌, ◌≤◌, ◌<◌, length, get_or, Result, IsErrAnd, IsOkAnd}
 use mathlib.Core.List.{List, [], ◌∷◌, Memᴰ}
 use Rattle.std.specs.Int.{◌∣◌}
 use Rattle.numbers.specs.Checklist.{Condition, condition, RefusedBy}
+use Rattle.numbers.specs.Refusals.{number_of, number_in}
+use Rattle.numbers.specs.declared.refusals.Refusal.{Refusal}
 use Rattle.numbers.specs.Divisors.{gcd}
 use Rattle.numbers.specs.Promise.{GreatestCommonDivisor}
 use Rattle.expansion.specs.Rows.{expansion, last, remainder_at, denominator_at, quotient_at, remainder_before, denominator_before, period}
@@ -12,7 +14,6 @@ use Rattle.expansion.specs.Reached.{Search, configurations_of, reached}
 use Rattle.expansion.specs.Reached.Search.{regular as regular_search, fine as fine_search}
 use Rattle.expansion.specs.Answer.{refusal, answer}
 use Rattle.expansion.specs.declared.Table.{Table}
-use Rattle.expansion.specs.declared.Answer.{Answer}
 
 -- the rows are those of the Euclidean algorithm, from theta(-1) = M, theta(0) = a, q(-1) = 0 and q(0) = 1 to the first remainder 0
 pub record RowsCorrect (M a : ℕ) : Type 0 where
@@ -140,17 +141,16 @@ pub record TableCorrect (M a : ℕ) (table : Table) : Type 0 where
 abbrev pub Asked : (M a : ℕ) → List Condition
 Asked M a = condition 1 ((2 ≤ M) × (M ≤ 2 ^ 62)) ∷ condition 2 (a < M) ∷ []
 
--- an answer of the call: a number exactly where its condition is the first that does not hold, with everything else 0; the table exactly where
--- every condition holds
-pub record AnswerCorrect (M a : ℕ) (answered : Answer) : Type 0 where
-  pub refused : (n : ℕ) → (answered.refusal ≡ suc n) ↔ RefusedBy (Asked M a) (suc n)
+-- an answer of the call: a refusal exactly where its condition is the first that does not hold, and no table then; the table exactly where every
+-- condition holds
+pub record AnswerCorrect (M a : ℕ) (answered : Result Table Refusal) : Type 0 where
+  pub refused : (n : ℕ) → (number_in answered ≡ suc n) ↔ RefusedBy (Asked M a) (suc n)
   -- in numbers: 1 for a modulus outside 2 to 2^62, 2 for a step not below another modulus
-  pub modulus_refused : (answered.refusal ≡ 1) ↔ ((M < 2) ⊎ (2 ^ 62 < M))
-  pub step_refused : (answered.refusal ≡ 2) ↔ ((2 ≤ M) × (M ≤ 2 ^ 62) × (M ≤ a))
-  pub accepted : (answered.refusal ≡ 0) ↔ ((2 ≤ M) × (M ≤ 2 ^ 62) × (a < M))
-  pub refused_empty : 0 < answered.refusal
-      → answered.table ≡ record { remainders = replicate 89 0; denominators = replicate 89 0; quotients = replicate 89 0; last = 0 }
-  pub accepted_table : answered.refusal ≡ 0 → TableCorrect M a answered.table
+  pub modulus_refused : (number_in answered ≡ 1) ↔ ((M < 2) ⊎ (2 ^ 62 < M))
+  pub step_refused : (number_in answered ≡ 2) ↔ ((2 ≤ M) × (M ≤ 2 ^ 62) × (M ≤ a))
+  pub accepted : (number_in answered ≡ 0) ↔ ((2 ≤ M) × (M ≤ 2 ^ 62) × (a < M))
+  pub refused_empty : 0 < number_in answered → IsErrAnd answered (λ r. number_of r ≡ number_in answered)
+  pub accepted_table : number_in answered ≡ 0 → IsOkAnd answered (TableCorrect M a)
 
 -- all of it: of every step below a modulus, and the answer of every two numbers
 pub record Promised : Type 0 where
@@ -166,4 +166,4 @@ pub record Promised : Type 0 where
   pub searches : (M a : ℕ) → a < M → SearchesCorrect M a
   pub answers : (M a : ℕ) → AnswerCorrect M a (answer M a)
   -- the test of a modulus and a step gives the number that the answer has
-  pub refusals : (M a : ℕ) → refusal M a ≡ (answer M a).refusal
+  pub refusals : (M a : ℕ) → refusal M a ≡ number_in (answer M a)

@@ -2,8 +2,11 @@
 #![tactic(auto)]
 
 ghost use Rattle.std.specs.Prelude.{◌≡◌, ◌≤◌, ◌<◌, ◌^◌};
+ghost use Rattle.numbers.specs.Refusals.{tested};
 ghost use Rattle.expansion.specs.Rows.{expansion};
-ghost use Rattle.expansion.specs.Answer.{refusal, table_of, refused, answer};
+ghost use Rattle.expansion.specs.Answer.{refusal, table_of, answer};
+
+use numbers::Refusal;
 
 // Rows 0 to last: remainder, denominator of the convergent, quotient drawn. Every place after the last row is 0.
 #[derive(Drop)]
@@ -14,48 +17,32 @@ pub struct Table {
     pub last: usize,
 }
 
-// The table, or the number of a refusal beside the table as it is before it is filled.
-#[derive(Drop)]
-pub struct Answer {
-    pub table: Table,
-    pub refusal: u32,
-}
-
 // 2^62
 const LARGEST_MODULUS: u64 = 4611686018427387904;
 
-// The expansion of a step below a modulus up to 2^62, or a refusal.
-pub fn expand(modulus: u64, step: u64) -> Answer
+// The expansion of a step below a modulus up to 2^62. Refused as `refuse` says.
+pub fn expand(modulus: u64, step: u64) -> Result<Table, Refusal>
     ensures { result ≡ answer modulus step }
 {
-    let number = refuse(modulus, step);
-    if number != 0 {
-        return refused(number);
-    }
-    Answer {
-        table: fill(modulus, step),
-        refusal: 0,
-    }
+    refuse(modulus, step)?;
+    Ok(fill(modulus, step))
 }
 
-// The number of the first condition that does not hold: 1 for a modulus outside 2 to 2^62, else 2 for a step that is not below it. 0 where both
-// hold.
-pub fn refuse(modulus: u64, step: u64) -> u32
-    ensures { result ≡ refusal modulus step }
+// The first condition that does not hold: a modulus from 2 to 2^62, then a step below it.
+pub fn refuse(modulus: u64, step: u64) -> Result<(), Refusal>
+    ensures { result ≡ tested (refusal modulus step) }
 {
-    if modulus < 2 {
-        return 1;
-    }
-    if LARGEST_MODULUS < modulus {
-        return 1;
+    if modulus < 2 || LARGEST_MODULUS < modulus {
+        return Err(Refusal::Modulus);
     }
     if modulus <= step {
-        return 2;
+        return Err(Refusal::Step);
     }
-    0
+    Ok(())
 }
 
-// The rows of an accepted modulus and step, to the first remainder 0.
+// The rows of an accepted modulus and step, to the first remainder 0. The row is counted by hand:
+// Euclid's loop ends at that remainder, and not at an index.
 fn fill(modulus: u64, step: u64) -> Table
     requires { (step < modulus) × (modulus ≤ 2 ^ 62) }
     ensures { result ≡ table_of (expansion modulus step) }
@@ -90,20 +77,5 @@ fn fill(modulus: u64, step: u64) -> Table
         denominators: denominators,
         quotients: quotients,
         last: row,
-    }
-}
-
-// A refusal carries its number alone.
-fn refused(number: u32) -> Answer
-    ensures { result ≡ refused number }
-{
-    Answer {
-        table: Table {
-            remainders: [0u64; 89],
-            denominators: [0u64; 89],
-            quotients: [0u64; 89],
-            last: 0,
-        },
-        refusal: number,
     }
 }

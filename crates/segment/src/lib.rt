@@ -4,6 +4,7 @@
 #![tactic(auto)]
 
 ghost use Rattle.std.specs.Prelude.{◌≡◌};
+ghost use Rattle.numbers.specs.Refusals.{tested};
 ghost use Rattle.expansion.specs.Reached.Search.{regular, fine};
 ghost use Rattle.segment.specs.Accepted.{asked, refusal, Accepted};
 ghost use Rattle.segment.specs.Search.{verdict_at};
@@ -13,10 +14,21 @@ ghost use Rattle.segment.specs.State.{state_after};
 mod sketch;
 mod state;
 
+use numbers::Refusal;
 use state::{State, fine_even, fine_odd, first, regular_even, regular_odd};
 
+// A segment, with the words of a job.
+#[derive(Clone, Copy, Debug, PartialEq, Eq)]
+pub struct Segment {
+    pub modulus: u64,
+    pub step: u64,
+    pub start: u64,
+    pub count: u64,
+    pub window: u64,
+}
+
 // Clear: the distance is at least the window. Possible: it is less, which does not yet make an argument below the count hard.
-#[derive(Clone, Copy)]
+#[derive(Clone, Copy, Debug, PartialEq, Eq)]
 pub enum Verdict {
     Clear,
     Possible,
@@ -44,97 +56,79 @@ pub struct Fine {
     pub verdict: Verdict,
 }
 
-// A refusal carries its number alone.
-#[derive(Clone, Copy)]
-pub enum RegularAnswer {
-    Refused(u32),
-    Shown(Regular),
-}
-
-#[derive(Clone, Copy)]
-pub enum FineAnswer {
-    Refused(u32),
-    Shown(Fine),
-}
-
 const LARGEST_COUNT: u64 = 1048576;
 
 // How many steps a search may take, each of which goes through a row. Every accepted segment is done by then.
 const BUDGET: u32 = 29;
 
-// The regular search: from each quotient to the next, to the first regular configuration that has at least as many points as the count,
-// or to that of the period where the count exceeds it. Refused as `refuse` says.
-pub fn regular_search(modulus: u64, step: u64, start: u64, count: u64, window: u64) -> RegularAnswer
-    ensures { result ≡ regular_answer modulus step start count window }
+// The regular search: from each quotient to the next, to the first regular configuration that has at
+// least as many points as the count, or to that of the period where the count exceeds it. Refused as
+// `refuse` says.
+pub fn regular_search(segment: Segment) -> Result<Regular, Refusal>
+    ensures { result ≡ regular_answer segment.modulus segment.step segment.start segment.count segment.window }
 {
-    let number = refuse(modulus, step, start, count, window);
-    if number != 0 {
-        return RegularAnswer::Refused(number);
-    }
-    let end = regular_end(modulus, step, start, count);
-    RegularAnswer::Shown(Regular {
+    refuse(segment)?;
+    let end = regular_end(segment.modulus, segment.step, segment.start, segment.count);
+    Ok(Regular {
         count: end.longs + end.shorts,
         quotients: end.index,
         distance: end.distance,
         argument: end.argument,
-        verdict: judge(end.distance, window),
+        verdict: judge(end.distance, segment.window),
     })
 }
 
-// The fine search: the same over the fine configurations, so that it stops at no more points; refused in the same cases.
-pub fn fine_search(modulus: u64, step: u64, start: u64, count: u64, window: u64) -> FineAnswer
-    ensures { result ≡ fine_answer modulus step start count window }
+// The fine search: the same over the fine configurations, so that it stops at no more points; refused
+// in the same cases.
+pub fn fine_search(segment: Segment) -> Result<Fine, Refusal>
+    ensures { result ≡ fine_answer segment.modulus segment.step segment.start segment.count segment.window }
 {
-    let number = refuse(modulus, step, start, count, window);
-    if number != 0 {
-        return FineAnswer::Refused(number);
-    }
-    let end = fine_end(modulus, step, start, count);
-    FineAnswer::Shown(Fine {
+    refuse(segment)?;
+    let end = fine_end(segment.modulus, segment.step, segment.start, segment.count);
+    Ok(Fine {
         count: end.longs + end.shorts,
         index: end.index,
         part: end.part,
         distance: end.distance,
         argument: end.argument,
-        verdict: judge(end.distance, window),
+        verdict: judge(end.distance, segment.window),
     })
 }
 
 // The verdict of the regular search alone, in less time; possible where the search is refused.
-pub fn regular_verdict(modulus: u64, step: u64, start: u64, count: u64, window: u64) -> Verdict
-    ensures { result ≡ regular_verdict modulus step start count window }
+pub fn regular_verdict(segment: Segment) -> Verdict
+    ensures { result ≡ regular_verdict segment.modulus segment.step segment.start segment.count segment.window }
 {
-    if refuse(modulus, step, start, count, window) != 0 {
+    let Ok(()) = refuse(segment) else {
         return Verdict::Possible;
-    }
-    judge(regular_distance(modulus, step, start, count), window)
+    };
+    let distance = regular_distance(segment.modulus, segment.step, segment.start, segment.count);
+    judge(distance, segment.window)
 }
 
-// The number of the first condition that does not hold: 1 and 2 as for the expansion of the modulus and the step, else 3 for a start that is not
-// below the modulus, else 4 for a count outside 1 to 1,048,576, else 5 for a window outside 1 to the modulus. 0 where all hold.
-pub fn refuse(modulus: u64, step: u64, start: u64, count: u64, window: u64) -> u32
-    ensures { result ≡ refusal (asked modulus step start count window) }
+// The first condition that does not hold: those of the expansion of the modulus and the step, then a
+// start below the modulus, a count from 1 to 1,048,576, a window from 1 to the modulus.
+pub fn refuse(segment: Segment) -> Result<(), Refusal>
+    ensures { result ≡ tested (refusal (asked segment.modulus segment.step segment.start segment.count segment.window)) }
 {
-    let number = expansion::refuse(modulus, step);
-    if number != 0 {
-        return number;
-    }
+    let Segment {
+        modulus,
+        step,
+        start,
+        count,
+        window,
+    } = segment;
+    expansion::refuse(modulus, step)?;
     if modulus <= start {
-        return 3;
+        return Err(Refusal::Start);
     }
-    if count < 1 {
-        return 4;
+    if count < 1 || LARGEST_COUNT < count {
+        return Err(Refusal::Count);
     }
-    if LARGEST_COUNT < count {
-        return 4;
+    if window < 1 || modulus < window {
+        return Err(Refusal::Window);
     }
-    if window < 1 {
-        return 5;
-    }
-    if modulus < window {
-        return 5;
-    }
-    0
+    Ok(())
 }
 
 // The state in which the regular search ends: an even and an odd row take turns, and the index tells the steps taken. The window plays no part;

@@ -1,17 +1,18 @@
 -- `expansion::expand` meets its contract: a refusal, or the table of an accepted modulus and step.
 -- Assumes nothing.
-use mathlib.Core.Path.{sym, ap, ◌∙◌}
-use Rattle.expansion.specs.declared.Table.{Table}
-use Rattle.expansion.proofs.Answers.{accepted, answer_refused, answer_accepted}
+use Rattle.std.proofs.Common.{rules}
+use Rattle.expansion.specs.Answer.{answer}
+use Rattle.numbers.proofs.Outcomes.{shown_accepted, refused_alike, outcome_shown}
+use Rattle.expansion.proofs.Answers.{accepted}
 use Rattle.expansion.proofs.expand.Goals as goal
 
-pub returns-then-number-ne0 : goal.returns-then-number-ne0
-returns-then-number-ne0 c =
-    c.refused.ensures ∙ answer_refused _ _ c.refuse-number.ensures c.if-number-ne0.true
+pub returns-in_err-refuse : goal.returns-in_err-refuse
+unfolding answer
+returns-in_err-refuse c = search (rules, refused_alike)
 
 pub fill-requires : goal.fill-requires
-fill-requires c = let h = (accepted _ _).0 (sym c.refuse-number.ensures ∙ c.if-number-ne0.false) in (h.2, h.1)
+fill-requires c = search (rules, shown_accepted, accepted)
 
 pub returns : goal.returns
-returns c =
-    ap (λ (t : Table). record { table = t; refusal = 0 }) c.fill.ensures ∙ answer_accepted _ _ (sym c.refuse-number.ensures ∙ c.if-number-ne0.false)
+unfolding answer
+returns c = search (rules, shown_accepted, outcome_shown)
