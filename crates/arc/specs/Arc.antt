@@ -3,15 +3,15 @@ use Rattle.std.specs.Prelude.{List, [], ◌∷◌, ◌++◌, ℕ, zero, suc, ℤ
 use Rattle.std.proofs.Math.Decide.{dec_le, dec_lt}
 use Rattle.numbers.specs.Checklist.{Check, check, first_failing}
 use Rattle.expansion.specs.Reached.{Search}
-use Rattle.geometry.specs.Segment.{Segment, segment}
+use Rattle.geometry.specs.Segment as geometry
 use Rattle.segment.specs.Accepted as accepted
 use Rattle.segment.specs.Search.{verdict}
+use Rattle.segment.specs.declared.Segment.{Segment}
 use Rattle.segment.specs.declared.Verdict.{Verdict}
 use Rattle.segment.specs.declared.Verdict.TheVariants.{Possible}
 use Rattle.parabola.specs.Parabola.{Parabola, value_at, slope_at, covering_step, covering_start, covering_window, covering}
 use Rattle.arc.specs.declared.Arc.{Arc}
 use Rattle.arc.specs.declared.Point.{Point}
-use Rattle.arc.specs.declared.covering.Covering.{Covering}
 
 -- the parabola of a call, from its modulus, value, slope, curve, count and window
 abbrev pub asked : (M c0 c1 : ℕ) (s : ℤ) (N w : ℕ) → Parabola
@@ -24,8 +24,8 @@ parabola a = asked a.modulus a.value a.slope a.curve a.count (suc a.highest)
 -- ---- bounds
 
 -- the segment with a parabola's slope and value for step and start
-abbrev pub line_of : Parabola → Segment
-line_of p = segment p.unit p.slope p.value p.count p.window
+abbrev pub line_of : Parabola → geometry.Segment
+line_of p = geometry.segment p.unit p.slope p.value p.count p.window
 
 abbrev pub curve_checks : Parabola → List Check
 curve_checks p = check 6 (dec_le (nat_abs p.curve) 1048576) ∷ []
@@ -66,6 +66,7 @@ verdict_with (suc n) k p = Possible
 unfoldable pub arc_verdict : Search → Arc → Verdict
 arc_verdict k a = verdict_with (refusal (parabola a)) k (parabola a)
 
--- the numbers of a covering segment that are not the parabola's own
-unfoldable pub covering_numbers : Parabola → Covering
-covering_numbers p = record { step = covering_step p; start = covering_start p; window = covering_window p }
+-- the covering segment, as a search takes it
+unfoldable pub covering_segment : Parabola → Segment
+covering_segment p =
+    record { modulus = p.unit; step = covering_step p; start = covering_start p; count = p.count; window = covering_window p }

@@ -1,7 +1,9 @@
 -- What is promised of parabolas within the bounds of the code, and of arcs. `Promised`, at the end, is all of it; proofs/Promises.antt proves it. Assumes nothing: these are statements.
-use Rattle.std.specs.Prelude.{◌≡◌, List, [], ◌∷◌, ◌↔◌, ℕ, suc, ◌-◌, ◌*◌, ◌/◌, ◌^◌, ◌≤◌, ◌<◌, ℤ, pos, nat_abs, ◌+ℤ◌, ◌*ℤ◌, Some, None}
+use Rattle.std.specs.Prelude.{◌≡◌, List, [], ◌∷◌, ◌↔◌, ℕ, suc, ◌-◌, ◌*◌, ◌/◌, ◌^◌, ◌≤◌, ◌<◌, ℤ, pos, nat_abs, ◌+ℤ◌, ◌*ℤ◌, Some, None, Err}
 use Rattle.numbers.specs.Checklist.{Condition, condition, RefusedBy}
 use Rattle.numbers.specs.Integers.{◌modulo◌}
+use Rattle.numbers.specs.Refusals.{number_of, tested}
+use Rattle.numbers.specs.declared.refusals.Refusal.{Refusal}
 use Rattle.expansion.specs.Reached.{Search}
 use Rattle.segment.specs.Accepted as segment
 use Rattle.segment.specs.Search.{verdict}
@@ -27,6 +29,8 @@ Asked p =
 pub record RefusalsCorrect (p : Parabola) : Type 0 where
   pub refused : (n : ℕ) → (refusal p ≡ suc n) ↔ RefusedBy (Asked p) (suc n)
   pub accepted : (refusal p ≡ 0) ↔ InRange p
+  -- and a call answers it by the name that has this number
+  pub by_name : (r : Refusal) → (tested (refusal p) ≡ Err r) ↔ RefusedBy (Asked p) (number_of r)
 
 -- ---- coverings
 

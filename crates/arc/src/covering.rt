@@ -1,27 +1,22 @@
 // The segment that covers an arc: it lies above the arc, at most by the spread.
 ghost use Rattle.std.specs.Prelude.{◌≡◌};
 ghost use Rattle.parabola.specs.Parabola.{spread, covering_start, covering_window};
-ghost use Rattle.arc.specs.Arc.{parabola, covering_numbers};
+ghost use Rattle.arc.specs.Arc.{parabola, covering_segment};
 
 use crate::Within;
 use numbers::{magnitude, min, reduce};
-
-// What a search asks of the covering segment beside the modulus and the count, which are the arc's.
-#[derive(Clone, Copy)]
-pub(crate) struct Covering {
-    pub(crate) step: u64,
-    pub(crate) start: u64,
-    pub(crate) window: u64,
-}
+use segment::Segment;
 
 impl Within {
-    pub(crate) fn cover(self) -> Covering
-        ensures { result ≡ covering_numbers (parabola self.arc) }
+    pub(crate) fn cover(self) -> Segment
+        ensures { result ≡ covering_segment (parabola self.arc) }
     {
         let arc = self.arc;
-        Covering {
+        Segment {
+            modulus: arc.modulus,
             step: reduce(arc.modulus - arc.slope, arc.modulus),
             start: self.covering_start(),
+            count: arc.count,
             window: self.covering_window(),
         }
     }

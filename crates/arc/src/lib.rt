@@ -4,6 +4,7 @@
 #![tactic(auto)]
 
 ghost use Rattle.std.specs.Prelude.{◌≡◌};
+ghost use Rattle.numbers.specs.Refusals.{tested};
 ghost use Rattle.expansion.specs.Reached.Search.{regular, fine};
 ghost use Rattle.arc.specs.Arc.{asked, refusal, point_answer, arc_verdict};
 
@@ -11,7 +12,8 @@ mod covering;
 mod values;
 mod within;
 
-use numbers::magnitude;
+use numbers::{Refusal, magnitude};
+use segment::{Segment, Verdict};
 pub use within::Within;
 
 // `highest` is the highest hard value, one less than the window.
@@ -35,19 +37,29 @@ pub struct Point {
 // Of a curve, without its sign.
 const LARGEST_CURVE: u64 = 1048576;
 
-// The number of the first condition that does not hold: 1 to 5 as for the segment with the slope for its step and the value for its start, else 6
-// for a curve outside -1,048,576 to 1,048,576. 0 where all hold.
-pub fn refuse(modulus: u64, value: u64, slope: u64, curve: i64, count: u64, window: u64) -> u32
-    ensures { result ≡ refusal (asked modulus value slope curve count window) }
+// The first condition that does not hold: those of the segment with the slope for its step and the value for its start, then a curve from -1,048,576 to
+// 1,048,576.
+pub fn refuse(
+    modulus: u64,
+    value: u64,
+    slope: u64,
+    curve: i64,
+    count: u64,
+    window: u64,
+) -> Result<(), Refusal>
+    ensures { result ≡ tested (refusal (asked modulus value slope curve count window)) }
 {
-    let number = segment::refuse(modulus, slope, value, count, window);
-    if number != 0 {
-        return number;
-    }
+    segment::refuse(Segment {
+        modulus,
+        step: slope,
+        start: value,
+        count,
+        window,
+    })?;
     if LARGEST_CURVE < magnitude(curve) {
-        return 6;
+        return Err(Refusal::Curve);
     }
-    0
+    Ok(())
 }
 
 // None where x is not an argument of an arc within the bounds.
@@ -63,21 +75,21 @@ pub fn point_at(arc: Arc, x: u64) -> Option<Point>
 
 // Whether the regular search clears the covering segment: then V(x) is above the highest hard value at every argument. An arc outside the bounds is
 // never cleared.
-pub fn regular_verdict(arc: Arc) -> segment::Verdict
+pub fn regular_verdict(arc: Arc) -> Verdict
     ensures { result ≡ arc_verdict regular arc }
 {
     match arc.within() {
         Some(within) => within.regular_verdict(),
-        None => segment::Verdict::Possible,
+        None => Verdict::Possible,
     }
 }
 
 // The same by the fine search.
-pub fn fine_verdict(arc: Arc) -> segment::Verdict
+pub fn fine_verdict(arc: Arc) -> Verdict
     ensures { result ≡ arc_verdict fine arc }
 {
     match arc.within() {
         Some(within) => within.fine_verdict(),
-        None => segment::Verdict::Possible,
+        None => Verdict::Possible,
     }
 }

@@ -6,6 +6,7 @@ ghost use Rattle.parabola.specs.Parabola.{InRange, value_at, slope_at, covering}
 ghost use Rattle.arc.specs.Arc.{parabola};
 
 use crate::{Arc, Point, refuse};
+use segment::Verdict;
 
 #[derive(Clone, Copy)]
 pub struct Within {
@@ -21,7 +22,7 @@ impl Arc {
         if self.modulus <= self.highest {
             return None;
         }
-        let number = refuse(
+        let refused = refuse(
             self.modulus,
             self.value,
             self.slope,
@@ -29,10 +30,10 @@ impl Arc {
             self.count,
             self.highest + 1,
         );
-        if number != 0 {
-            return None;
+        match refused {
+            Ok(()) => Some(Within { arc: self }),
+            Err(_) => None,
         }
-        Some(Within { arc: self })
     }
 }
 
@@ -48,33 +49,19 @@ impl Within {
     }
 
     // Whether the regular search clears the covering segment.
-    pub fn regular_verdict(self) -> segment::Verdict
+    pub fn regular_verdict(self) -> Verdict
         ensures { result ≡ verdict regular (covering (parabola self.arc)) }
     {
-        let covering = self.cover();
-        segment::regular_verdict(
-            self.arc.modulus,
-            covering.step,
-            covering.start,
-            self.arc.count,
-            covering.window,
-        )
+        segment::regular_verdict(self.cover())
     }
 
     // The same by the fine search, which refuses no covering segment.
-    pub fn fine_verdict(self) -> segment::Verdict
+    pub fn fine_verdict(self) -> Verdict
         ensures { result ≡ verdict fine (covering (parabola self.arc)) }
     {
-        let covering = self.cover();
-        match segment::fine_search(
-            self.arc.modulus,
-            covering.step,
-            covering.start,
-            self.arc.count,
-            covering.window,
-        ) {
-            segment::FineAnswer::Refused(_) => segment::Verdict::Possible,
-            segment::FineAnswer::Shown(shown) => shown.verdict,
+        match segment::fine_search(self.cover()) {
+            Ok(shown) => shown.verdict,
+            Err(_) => Verdict::Possible,
         }
     }
 }

@@ -4,4 +4,4 @@ use Rattle.arc.proofs.Coverings.{regular_verdict}
 use Rattle.arc.proofs.within.Within.regular_verdict.Goals as goal
 
 pub returns : goal.returns
-returns c = c.regular_verdict.ensures ∙ regular_verdict c.args.self.in_range c.cover-covering.ensures
+returns c = c.regular_verdict.ensures ∙ regular_verdict c.args.self.in_range c.cover.ensures
