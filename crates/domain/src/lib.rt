@@ -7,7 +7,7 @@ ghost use Rattle.std.specs.Prelude.{◌≡◌, ◌-◌, length};
 ghost use Rattle.expansion.specs.Reached.Search.{regular};
 ghost use Rattle.segment.specs.Search.{verdict};
 ghost use Rattle.segment.specs.declared.Verdict.TheVariants.{Possible};
-ghost use Rattle.segment.specs.Accepted as segment;
+ghost use Rattle.segment.specs.Accepted.{asked, Accepted as AcceptedSegment};
 ghost use Rattle.parabola.specs.Parabola.{covering, line};
 ghost use Rattle.arc.specs.Arc.{parabola};
 ghost use Rattle.domain.specs.Domain.{centred_of, Accepted};
@@ -17,8 +17,9 @@ mod phases;
 mod scan;
 
 use arc::{Arc, Within};
-use numbers::{add, min, subtract};
+use numbers::{Refusal, add, min, subtract};
 use scan::{Scan, list_all};
+use segment::{Segment, Verdict};
 
 // 2^52.
 const LARGEST_ORIGIN: u64 = 4503599627370496;
@@ -35,72 +36,51 @@ pub struct Domain {
     pub window: u64,
 }
 
-// A refusal carries its number alone. Else: how many hard arguments were listed.
-#[derive(Clone, Copy)]
-pub enum ScanAnswer {
-    Refused(u32),
-    Listed(u32),
-}
-
-// A refusal carries its number alone. Else: the verdict of phase 1, where clear clears the whole domain, and how many hard arguments were listed.
-#[derive(Clone, Copy)]
-pub enum DomainAnswer {
-    Refused(u32),
-    Searched {
-        first: segment::Verdict,
-        listed: u32,
-    },
+// What a search of a domain finds: the verdict of phase 1, where clear clears the whole domain, and how many hard arguments were listed.
+#[derive(Clone, Copy, Debug, PartialEq, Eq)]
+pub struct Searched {
+    pub first: Verdict,
+    pub listed: u32,
 }
 
 // Lists the hard arguments of the segment (start - step·x) mod modulus, ascending from the first place of the list, and beside each, at the same place of the values,
-// its residue; the places after them are left as they were. Refused as a search of the segment is, and else by 7 where the list or the values have fewer places than
-// there are hard arguments: on a refusal both are as they were.
-pub fn scan_segment(
-    modulus: u64,
-    step: u64,
-    start: u64,
-    count: u64,
-    window: u64,
-    list: &mut [u64],
-    values: &mut [u64],
-) -> ScanAnswer
-    ensures value { result ≡ scan_answer modulus step start count window (length list.old) (length values.old) }
-    ensures list_after { list.new ≡ scan_list_after modulus step start count window (length values.old) list.old }
-    ensures values_after { values.new ≡ scan_values_after modulus step start count window (length list.old) values.old }
+// its residue; the places after them are left as they were. The answer is how many there are. Refused as a search of the segment is, and else for room where the list
+// or the values have fewer places than there are hard arguments: on a refusal both are as they were.
+pub fn scan_segment(segment: Segment, list: &mut [u64], values: &mut [u64]) -> Result<u32, Refusal>
+    ensures value { result ≡ scan_answer segment.modulus segment.step segment.start segment.count segment.window (length list.old) (length values.old) }
+    ensures list_after { list.new ≡ scan_list_after segment.modulus segment.step segment.start segment.count segment.window (length values.old) list.old }
+    ensures values_after { values.new ≡ scan_values_after segment.modulus segment.step segment.start segment.count segment.window (length list.old) values.old }
 {
-    let number = segment::refuse(modulus, step, start, count, window);
-    if number != 0 {
-        return ScanAnswer::Refused(number);
-    }
-    let line = line(modulus, step, start, count, window);
+    segment::refuse(segment)?;
+    let line = line(segment);
     let places = min(list.len() as u64, values.len() as u64);
     let listed = line.count_hard();
     if places < listed as u64 {
-        return ScanAnswer::Refused(7);
+        return Err(Refusal::Room);
     }
-    if listed as u64 == count {
+    if listed as u64 == segment.count {
         list_all(line.within, list, values);
-        return ScanAnswer::Listed(listed);
+        return Ok(listed);
     }
     line.list_hard(listed, list, values, 0);
-    ScanAnswer::Listed(listed)
+    Ok(listed)
 }
 
 // A segment that nothing refuses, as a line: it falls by the step, modulo M.
-fn line(modulus: u64, step: u64, start: u64, count: u64, window: u64) -> Scan
-    requires { segment.Accepted (segment.asked modulus step start count window) }
-    ensures made { parabola result.within.arc ≡ line (segment.asked modulus step start count window) }
+fn line(segment: Segment) -> Scan
+    requires { AcceptedSegment (asked segment.modulus segment.step segment.start segment.count segment.window) }
+    ensures made { parabola result.within.arc ≡ line (asked segment.modulus segment.step segment.start segment.count segment.window) }
     ensures raise { result.raise ≡ 0 }
     ensures begin { result.begin ≡ 0 }
 {
     let within = Within {
         arc: Arc {
-            modulus,
-            value: start,
-            slope: subtract(0, step, modulus),
+            modulus: segment.modulus,
+            value: segment.start,
+            slope: subtract(0, segment.step, segment.modulus),
             curve: 0,
-            count,
-            highest: window - 1,
+            count: segment.count,
+            highest: segment.window - 1,
         },
     };
     Scan {
@@ -114,34 +94,30 @@ fn line(modulus: u64, step: u64, start: u64, count: u64, window: u64) -> Scan
 // possible. Each part has an eighth of the arguments, rounded down, and the first ones have one more until the rest is used up. The marks become 0
 // where parts are not looked at, 1 for a part that is clear, 2 for one that is possible and was scanned, 3 for one that has no argument. The hard
 // arguments x are listed as by a scan, each as origin + x, and beside each, at the same place of the values, V(x).
-// Refused: 1 where the modulus is outside 2 to 2^62, else 2 where the slope is not below it, else 3 where the value is not, else 4 where the
-// count is outside 1 to 1,048,576, else 5 where the window is outside 1 to the modulus, else 6 where the curve is outside -1,048,576 to 1,048,576, else 11
-// where the origin is above 2^52, else 7 where the list or the values have fewer places than there are hard arguments. On a refusal marks, list and values are as
-// they were.
+// Refused: for a modulus outside 2 to 2^62, else for a slope or a value that is not below it (by the names `Step` and `Start`), else for a count outside 1 to
+// 1,048,576, else for a window outside 1 to the modulus, else for a curve outside -1,048,576 to 1,048,576, else for an origin above 2^52, else for room where the list
+// or the values have fewer places than there are hard arguments. On a refusal marks, list and values are as they were.
 pub fn search_domain(
     domain: Domain,
     marks: &mut [u8; 8],
     list: &mut [u64],
     values: &mut [u64],
-) -> DomainAnswer
+) -> Result<Searched, Refusal>
     ensures value { result ≡ domain_answer domain (length list.old) (length values.old) }
     ensures marks_after { marks.new ≡ marks_after domain (length list.old) (length values.old) marks.old }
     ensures list_after { list.new ≡ list_after domain (length values.old) list.old }
     ensures values_after { values.new ≡ values_after domain (length list.old) values.old }
 {
-    let number = arc::refuse(
+    arc::refuse(
         domain.modulus,
         domain.value,
         domain.slope,
         domain.curve,
         domain.count,
         domain.window,
-    );
-    if number != 0 {
-        return DomainAnswer::Refused(number);
-    }
+    )?;
     if LARGEST_ORIGIN < domain.origin {
-        return DomainAnswer::Refused(11);
+        return Err(Refusal::Origin);
     }
     let scan = centred(domain);
     // Where every value is hard, no search can clear the domain. docs/DECISIONS.md says why this is a call of its own.
@@ -149,14 +125,14 @@ pub fn search_domain(
         search_parts(scan, marks, list, values)
     } else {
         match scan.within.regular_verdict() {
-            segment::Verdict::Clear => {
+            Verdict::Clear => {
                 *marks = [0u8; 8];
-                DomainAnswer::Searched {
-                    first: segment::Verdict::Clear,
+                Ok(Searched {
+                    first: Verdict::Clear,
                     listed: 0,
-                }
+                })
             }
-            segment::Verdict::Possible => search_parts(scan, marks, list, values),
+            Verdict::Possible => search_parts(scan, marks, list, values),
         }
     }
 }
@@ -193,7 +169,7 @@ fn search_parts(
     marks: &mut [u8; 8],
     list: &mut [u64],
     values: &mut [u64],
-) -> DomainAnswer
+) -> Result<Searched, Refusal>
     requires { verdict regular (covering (parabola scan.within.arc)) ≡ Possible }
     ensures value { result ≡ answer_with (too_few (parabola scan.within.arc) (length list.old) (length values.old)) (parabola scan.within.arc) }
     ensures marks_after { marks.new ≡ marks_with (too_few (parabola scan.within.arc) (length list.old) (length values.old)) (parabola scan.within.arc) marks.old }
@@ -203,14 +179,14 @@ fn search_parts(
     let places = min(list.len() as u64, values.len() as u64);
     let report = scan.examine_parts();
     if places < report.total as u64 {
-        return DomainAnswer::Refused(7);
+        return Err(Refusal::Room);
     }
     let found = report.marks;
     *marks = found;
     let hard = report.hard;
     scan.list_parts(hard, list, values);
-    DomainAnswer::Searched {
-        first: segment::Verdict::Possible,
+    Ok(Searched {
+        first: Verdict::Possible,
         listed: report.total,
-    }
+    })
 }
