@@ -24,13 +24,13 @@ use Rattle.expansion.specs.Reached.Search.{fine}
 use Rattle.segment.specs.Search.{verdict}
 use Rattle.segment.specs.declared.Verdict.{Verdict}
 use Rattle.segment.specs.declared.Verdict.TheVariants.{Clear, Possible}
-use Rattle.parabola.specs.Parabola.{Parabola, InRange, triangle, value_at, slope_at, is_hard, hard_list, covering, continued, part, part_start, part_count}
+use Rattle.parabola.specs.Parabola.{Parabola, InRange, value_at, is_hard, hard_list, covering, continued, part, part_start, part_count}
 use Rattle.parabola.proofs.Promises.{promised}
 use Rattle.domain.specs.Scan.{listed_from, lowered, lowered_at, lowered_values}
 use Rattle.domain.specs.Phases.{mark_of, mark_with, part_mark, part_marks, hard_count, hard_counts, part_report, report}
-use Rattle.arc.specs.Arc.{parabola, point_answer, arc_verdict}
+use Rattle.arc.specs.Arc.{parabola, point}
 use Rattle.arc.specs.declared.Arc.{Arc}
-use Rattle.arc.specs.declared.PointAnswer.TheVariants.{Outside, At}
+use Rattle.arc.specs.declared.Point.{Point}
 use Rattle.arc.proofs.Promises as arc
 use Rattle.domain.specs.declared.phases.PartReport.{PartReport}
 
@@ -45,29 +45,24 @@ one_more i rest =
 pub start_most : {N i : ℕ} → N ≤ 1048576 → i < 8 → part_start N i ≤ 1048576
 start_most {N} {i} most h = omega (arith, (promised.eight_parts N).pieces.within i (omega arith))
 
-module _ (a : Arc) (range : InRange (parabola a)) {i : ℕ} (h : i < 8) (some : 1 ≤ part_count a.count i) where
+module _ (a : Arc) {i : ℕ} (h : i < 8) (some : 1 ≤ part_count a.count i) where
   -- a part with arguments begins at one of the whole
-  begins_below : part_start a.count i < a.count
+  pub begins_below : part_start a.count i < a.count
   begins_below =
       let parts = promised.eight_parts a.count in
       omega (arith, parts.next i, parts.pieces.within (suc i) h, some)
 
-  pub begins_inside : point_answer a (part_start a.count i) ≡ Outside → ⊥
-  begins_inside e = (((arc.promised).arcs a).outside _).0 e range begins_below
-
-  part_point : point_answer a (part_start a.count i) ≡ At (part (parabola a) i).value (part (parabola a) i).slope
-  unfolding value_at slope_at triangle continued
-  part_point = ((arc.promised).arcs a).inside (part_start a.count i) range begins_below
+  -- and ends no later than that
+  pub ends_within : part_start a.count i + part_count a.count i ≤ a.count
+  ends_within =
+      let parts = promised.eight_parts a.count in
+      omega (arith, parts.next i, parts.pieces.within (suc i) h)
 
   -- and is made of the value and the slope there
-  pub part_made : {v s n : ℕ} → point_answer a (part_start a.count i) ≡ At v s → n ≡ part_count a.count i
-      → record { unit = a.modulus; value = v; slope = s; curve = read a.curve; count = n; window = suc a.highest } ≡ part (parabola a) i
+  pub part_made : InRange (parabola a) → {start n : ℕ} {t : Point} → start ≡ part_start a.count i → t ≡ point (parabola a) start → n ≡ part_count a.count i
+      → record { unit = a.modulus; value = t.value; slope = t.slope; curve = read a.curve; count = n; window = suc a.highest } ≡ part (parabola a) i
   unfolding continued
-  part_made {v} {s} e l =
-      let h = sym e ∙ part_point in
-      let f : v ≡ (part (parabola a) i).value = cc in
-      let g : s ≡ (part (parabola a) i).slope = cc in
-      rw (f, g, l, curve_read a.curve range.size_small)
+  part_made range e f l = rw (f, e, l, curve_read a.curve range.size_small)
 
 -- ---- one part
 
@@ -98,19 +93,15 @@ pub empty_part : (p : Parabola) → InRange p → (i : ℕ) → part_count p.cou
 unfolding part_report continued
 empty_part p range i e = rw (mark_empty (verdict fine (covering (part p i))) e, (promised.parts p range).nothing_listed i e)
 
-module _ (a : Arc) (range : InRange (parabola a)) where
-  -- the search of the covering segment has the arc's verdict
-  pub verdict_is : (k : Search) {v : Verdict} → arc_verdict k a ≡ v → verdict k (covering (parabola a)) ≡ v
-  verdict_is k e = sym (((arc.promised).arcs a).verdict_is k range) ∙ e
+module _ {p : Parabola} (range : InRange p) where
+  mark_is : {v : Verdict} → verdict fine (covering p) ≡ v → mark_with p.count (verdict fine (covering p)) ≡ mark_of v
+  mark_is e = mark_some _ _ range.count_low ∙ ap mark_of e
 
-  mark_is : {v : Verdict} → arc_verdict fine a ≡ v → mark_with a.count (verdict fine (covering (parabola a))) ≡ mark_of v
-  mark_is e = mark_some _ _ range.count_low ∙ ap mark_of (verdict_is fine e)
-
-  pub clear_part : arc_verdict fine a ≡ Clear → record { mark = 1; hard = 0 } ≡ part_report (parabola a)
+  pub clear_part : verdict fine (covering p) ≡ Clear → record { mark = 1; hard = 0 } ≡ part_report p
   unfolding part_report mark_of
-  clear_part e = rw (mark_is e, none_listed fine range (verdict_is fine e))
+  clear_part e = rw (mark_is e, none_listed fine range e)
 
-  pub possible_part : {n : ℕ} → arc_verdict fine a ≡ Possible → n ≡ length (hard_list (parabola a)) → record { mark = 2; hard = n } ≡ part_report (parabola a)
+  pub possible_part : {n : ℕ} → verdict fine (covering p) ≡ Possible → n ≡ length (hard_list p) → record { mark = 2; hard = n } ≡ part_report p
   unfolding part_report mark_of
   possible_part e h = rw (mark_is e, h)
 
