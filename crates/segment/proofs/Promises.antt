@@ -13,7 +13,6 @@ use Rattle.geometry.proofs.Promises as geometry
 use Rattle.segment.specs.Accepted.{asked, checks, refusal, Accepted}
 use Rattle.segment.specs.Search.{reached_in, argument, distance, verdict}
 use Rattle.segment.specs.Answer.{regular_shown, fine_shown, regular_answer_with, fine_answer_with, regular_answer, fine_answer, regular_verdict_with, regular_verdict}
-use Rattle.segment.specs.State.{next}
 use Rattle.segment.specs.Promise.{RefusedFor, RegularAnswerCorrect, FineAnswerCorrect, RegularClears, FineClears, Cleared, SmallerCleared, FineReachesNoMore, VerdictsCorrect, WithoutWindow, Promised}
 use Rattle.segment.specs.declared.Verdict.{Verdict}
 use Rattle.segment.specs.declared.Verdict.TheVariants.{Clear, Possible}
@@ -165,7 +164,7 @@ promised =
       regular_refused = regular_refuses;
       fine_refused = fine_refuses;
       steps = λ k s c. steps_correct k c;
-      step_of = λ odd N t. unfold next in (refl, refl);
+      step_of = λ odd N t. (refl, refl);
       smaller = smaller;
       no_more = no_more;
       verdicts = verdicts;

@@ -1,6 +1,7 @@
 -- The regular search for its distance alone, as functions of numbers, for the contracts of the functions that take its steps. specs/State.antt has the search
 -- itself. Assumes nothing: these are definitions.
 use Rattle.std.specs.Prelude.{Bool, true, not, ◌||◌, cond, ℕ, suc, ◌+◌, ◌-◌, ◌*◌, ◌/◌, ◌%◌, ◌^◌, ◌≤◌, ◌<◌, eqb, leb, ltb}
+use Rattle.segment.specs.Walk.{Walking}
 use Rattle.segment.specs.declared.sketch.Sketch.{Sketch}
 
 -- one point, as `first_state`
@@ -53,3 +54,11 @@ from_lowest_cut d r = cond (ltb d r) d (d - r)
 -- an odd row, cut from the right: long gaps only
 unfoldable pub odd_next : (N : ℕ) → Sketch → Sketch
 odd_next N s = next_row N s (cond s.wide (from_lowest_cut s.distance (s.long % s.short) % s.short) s.distance) true
+
+-- an even row, or an odd one
+abbrev pub sketch_next : (odd : Bool) → (N : ℕ) → Sketch → Sketch
+sketch_next odd N s = cond odd (odd_next N s) (even_next N s)
+
+-- the search, from where it begins
+abbrev pub sketch_walk : Walking Sketch
+sketch_walk = record { first = λ s. first_sketch s.unit s.step s.start s.count; done = λ k. k.done; next = sketch_next }

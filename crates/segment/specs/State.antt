@@ -1,10 +1,10 @@
 -- The steps of the searches as functions of numbers, for the contracts of the functions that take them, and where a search stands after so many steps.
 -- specs/Promise.antt says what the steps are for. Assumes nothing: these are definitions.
-use Rattle.std.specs.Prelude.{◌≡◌, Bool, true, false, ◌||◌, cond, ℕ, zero, suc, ◌+◌, ◌-◌, ◌*◌, ◌/◌, ◌^◌, ◌≤◌, ◌<◌, min, eqb, leb, ltb}
-use Rattle.numbers.specs.Parity.{is_odd}
+use Rattle.std.specs.Prelude.{◌≡◌, Bool, true, false, ◌||◌, cond, ℕ, suc, ◌+◌, ◌-◌, ◌*◌, ◌/◌, ◌^◌, ◌≤◌, ◌<◌, min, eqb, leb, ltb}
 use Rattle.expansion.specs.Reached.{Search}
 use Rattle.expansion.specs.Reached.Search.{regular, fine}
 use Rattle.geometry.specs.Segment.{Segment}
+use Rattle.segment.specs.Walk.{Walking, after}
 use Rattle.segment.specs.declared.state.State.{State}
 use Rattle.segment.specs.declared.state.Cuts.{Cuts}
 use Rattle.segment.specs.declared.state.Nearest.{Nearest}
@@ -73,6 +73,11 @@ pub record Steppable (s : State) : Type 0 where
 pub record Unreached (N : ℕ) (s : State) : Type 0 where
   pub longs_positive : 0 < s.longs
   pub below : points s < N
+
+-- a row can be taken: one is asked for N points, and they are not reached
+pub record Takes (N : ℕ) (s : State) : Type 0 where
+  pub steppable : Steppable s
+  pub unreached : Unreached N s
 
 -- ---- the point below the start
 
@@ -168,11 +173,14 @@ fine_next odd N s =
 -- ---- one step after another
 
 -- the step of a search
-unfoldable pub next : Search → (odd : Bool) → (N : ℕ) → State → State
+abbrev pub next : Search → (odd : Bool) → (N : ℕ) → State → State
 next regular odd N s = regular_next odd N s
 next fine odd N s = fine_next odd N s
 
--- where a search stands after so many steps, even and odd rows taking turns; once it is done, it stays there
-unfoldable pub state_after : Search → Segment → (steps : ℕ) → State
-state_after k s zero = first_state s.unit s.step s.start s.count
-state_after k s (suc n) = cond (state_after k s n).done (state_after k s n) (next k (is_odd n) s.count (state_after k s n))
+-- the search, from where it begins
+abbrev pub walk_of : Search → Walking State
+walk_of k = record { first = λ s. first_state s.unit s.step s.start s.count; done = λ t. t.done; next = next k }
+
+-- where a search stands after so many steps
+abbrev pub state_after : Search → Segment → (steps : ℕ) → State
+state_after k = after (walk_of k)

@@ -4,16 +4,17 @@
 #![tactic(auto)]
 
 ghost use Rattle.std.specs.Prelude.{◌≡◌};
-ghost use Rattle.expansion.specs.Reached.Search.{regular, fine};
-ghost use Rattle.segment.specs.Accepted.{asked, refusal, Accepted};
+ghost use Rattle.segment.specs.Accepted.{asked, refusal};
 ghost use Rattle.segment.specs.Search.{verdict_at};
 ghost use Rattle.segment.specs.Answer.{regular_answer, fine_answer, regular_verdict};
-ghost use Rattle.segment.specs.State.{state_after};
 
 mod sketch;
 mod state;
+mod walk;
 
-use state::{State, fine_even, fine_odd, first, regular_even, regular_odd};
+use sketch::DistanceWalk;
+use state::{FineWalk, RegularWalk};
+use walk::end;
 
 // Clear: the distance is at least the window. Possible: it is less, which does not yet make an argument below the count hard.
 #[derive(Clone, Copy)]
@@ -59,9 +60,6 @@ pub enum FineAnswer {
 
 const LARGEST_COUNT: u64 = 1048576;
 
-// How many steps a search may take, each of which goes through a row. Every accepted segment is done by then.
-const BUDGET: u32 = 29;
-
 // The regular search: from each quotient to the next, to the first regular configuration that has at least as many points as the count,
 // or to that of the period where the count exceeds it. Refused as `refuse` says.
 pub fn regular_search(modulus: u64, step: u64, start: u64, count: u64, window: u64) -> RegularAnswer
@@ -71,7 +69,7 @@ pub fn regular_search(modulus: u64, step: u64, start: u64, count: u64, window: u
     if number != 0 {
         return RegularAnswer::Refused(number);
     }
-    let end = regular_end(modulus, step, start, count);
+    let end = end::<RegularWalk>(modulus, step, start, count);
     RegularAnswer::Shown(Regular {
         count: end.longs + end.shorts,
         quotients: end.index,
@@ -89,7 +87,7 @@ pub fn fine_search(modulus: u64, step: u64, start: u64, count: u64, window: u64)
     if number != 0 {
         return FineAnswer::Refused(number);
     }
-    let end = fine_end(modulus, step, start, count);
+    let end = end::<FineWalk>(modulus, step, start, count);
     FineAnswer::Shown(Fine {
         count: end.longs + end.shorts,
         index: end.index,
@@ -107,7 +105,7 @@ pub fn regular_verdict(modulus: u64, step: u64, start: u64, count: u64, window: 
     if refuse(modulus, step, start, count, window) != 0 {
         return Verdict::Possible;
     }
-    judge(regular_distance(modulus, step, start, count), window)
+    judge(end::<DistanceWalk>(modulus, step, start, count).distance, window)
 }
 
 // The number of the first condition that does not hold: 1 and 2 as for the expansion of the modulus and the step, else 3 for a start that is not
@@ -135,76 +133,6 @@ pub fn refuse(modulus: u64, step: u64, start: u64, count: u64, window: u64) -> u
         return 5;
     }
     0
-}
-
-// The state in which the regular search ends: an even and an odd row take turns, and the index tells the steps taken. The window plays no part;
-// the contract has the least that is accepted.
-fn regular_end(modulus: u64, step: u64, start: u64, count: u64) -> State
-    requires { Accepted (asked modulus step start count 1) }
-    ensures { result ≡ state_after regular (asked modulus step start count 1) 29 }
-{
-    let mut state = first(modulus, step, start, count);
-    if state.done {
-        return state;
-    }
-    while state.index < BUDGET {
-        state = regular_even(state, count);
-        if state.done {
-            return state;
-        }
-        state = regular_odd(state, count);
-        if state.done {
-            return state;
-        }
-    }
-    // No accepted segment comes here: all are done within the budget.
-    state
-}
-
-// The same for the fine search.
-fn fine_end(modulus: u64, step: u64, start: u64, count: u64) -> State
-    requires { Accepted (asked modulus step start count 1) }
-    ensures { result ≡ state_after fine (asked modulus step start count 1) 29 }
-{
-    let mut state = first(modulus, step, start, count);
-    if state.done {
-        return state;
-    }
-    while state.index < BUDGET {
-        state = fine_even(state, count);
-        if state.done {
-            return state;
-        }
-        state = fine_odd(state, count);
-        if state.done {
-            return state;
-        }
-    }
-    // No accepted segment comes here: all are done within the budget.
-    state
-}
-
-// The distance of the state in which the regular search ends, by the rows of `sketch`.
-fn regular_distance(modulus: u64, step: u64, start: u64, count: u64) -> u64
-    requires { Accepted (asked modulus step start count 1) }
-    ensures { result ≡ (state_after regular (asked modulus step start count 1) 29).distance }
-{
-    let mut sketch = sketch::first(modulus, step, start, count);
-    if sketch.done {
-        return sketch.distance;
-    }
-    while sketch.index < BUDGET {
-        sketch = sketch::even_row(sketch, count);
-        if sketch.done {
-            return sketch.distance;
-        }
-        sketch = sketch::odd_row(sketch, count);
-        if sketch.done {
-            return sketch.distance;
-        }
-    }
-    // No accepted segment comes here: all are done within the budget.
-    sketch.distance
 }
 
 fn judge(distance: u64, window: u64) -> Verdict

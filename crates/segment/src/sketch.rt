@@ -4,6 +4,8 @@
 ghost use Rattle.std.specs.Prelude.{◌≡◌, true, cond};
 ghost use Rattle.segment.specs.Sketch.{first_sketch, Divisible, from_lowest_cut, next_row, even_next, odd_next};
 
+use crate::walk::Walk;
+
 // What a verdict needs of a state. wide: at an odd row, whether the start lies in a long gap. Once done, only the distance has a meaning: it is that of the search.
 #[derive(Clone, Copy)]
 pub(crate) struct Sketch {
@@ -15,6 +17,34 @@ pub(crate) struct Sketch {
     pub(crate) wide: bool,
     pub(crate) index: u32,
     pub(crate) done: bool,
+}
+
+pub(crate) struct DistanceWalk;
+
+impl Walk for DistanceWalk {
+    ghost use Rattle.segment.specs.Sketch.{Divisible, sketch_walk};
+
+    type State = Sketch;
+
+    ghost walk = { sketch_walk };
+
+    ghost CanGoOn = { Divisible };
+
+    fn first(modulus: u64, step: u64, start: u64, count: u64) -> Sketch {
+        first(modulus, step, start, count)
+    }
+
+    fn is_done(state: Sketch) -> bool {
+        state.done
+    }
+
+    fn even_row(state: Sketch, count: u64) -> Sketch {
+        even_row(state, count)
+    }
+
+    fn odd_row(state: Sketch, count: u64) -> Sketch {
+        odd_row(state, count)
+    }
 }
 
 // One point, as in `state::first`.

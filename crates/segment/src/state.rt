@@ -9,6 +9,7 @@
 ghost use Rattle.std.specs.Prelude.{◌≡◌, true, false, ◌<◌};
 ghost use Rattle.segment.specs.State.{first_state, quotient, all_cuts, last_cuts, cuts_of, Cutting, nearest, advanced_left, highest_cut, advanced_right, row_of, in_next_row, finished, ends, Steppable, Unreached, regular_next, fine_next};
 
+use crate::walk::Walk;
 use numbers::{min, saturating_sub};
 
 // longs gaps of length long and shorts gaps of length short, after part cuts of the row index; the argument of least residue below the count
@@ -38,6 +39,64 @@ struct Cuts {
 struct Nearest {
     argument: u64,
     distance: u64,
+}
+
+pub(crate) struct RegularWalk;
+
+impl Walk for RegularWalk {
+    ghost use Rattle.expansion.specs.Reached.Search.{regular};
+    ghost use Rattle.segment.specs.State.{walk_of, Takes};
+
+    type State = State;
+
+    ghost walk = { walk_of regular };
+
+    ghost CanGoOn = { Takes };
+
+    fn first(modulus: u64, step: u64, start: u64, count: u64) -> State {
+        first(modulus, step, start, count)
+    }
+
+    fn is_done(state: State) -> bool {
+        state.done
+    }
+
+    fn even_row(state: State, count: u64) -> State {
+        regular_even(state, count)
+    }
+
+    fn odd_row(state: State, count: u64) -> State {
+        regular_odd(state, count)
+    }
+}
+
+pub(crate) struct FineWalk;
+
+impl Walk for FineWalk {
+    ghost use Rattle.expansion.specs.Reached.Search.{fine};
+    ghost use Rattle.segment.specs.State.{walk_of, Takes};
+
+    type State = State;
+
+    ghost walk = { walk_of fine };
+
+    ghost CanGoOn = { Takes };
+
+    fn first(modulus: u64, step: u64, start: u64, count: u64) -> State {
+        first(modulus, step, start, count)
+    }
+
+    fn is_done(state: State) -> bool {
+        state.done
+    }
+
+    fn even_row(state: State, count: u64) -> State {
+        fine_even(state, count)
+    }
+
+    fn odd_row(state: State, count: u64) -> State {
+        fine_odd(state, count)
+    }
 }
 
 // One point. A step of 0 has no more than that, and a count of 1 asks for no more.
