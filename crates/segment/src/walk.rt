@@ -49,6 +49,5 @@ pub(crate) fn end<W: Walk>(modulus: u64, step: u64, start: u64, count: u64) -> W
             return state;
         }
     }
-    // No accepted segment comes here: all are done within the budget.
-    state
+    unreachable!()
 }

@@ -1,8 +1,8 @@
 -- `segment::walk::end` meets its contract: at the beginning, and after an even and an odd row of each
 -- turn. Assumes nothing.
-use Rattle.std.proofs.Common.{sym, ◌∙◌, arith}
+use Rattle.std.proofs.Common.{sym, ◌∙◌}
 use Rattle.segment.specs.Walk.{after}
-use Rattle.segment.proofs.Walks.{ends, row_few, row_able, even_taken, even_goes_on, odd_taken}
+use Rattle.segment.proofs.Walks.{ends, row_able, even_taken, even_goes_on, odd_taken}
 use Rattle.segment.proofs.walk.end.Goals as goal
 
 pub returns-then-is_done : goal.returns-then-is_done
@@ -39,6 +39,3 @@ loop-preserved g c =
       on = sym c.is_done-in-loop-2.ensures ∙ c.if-is_done-3.false;
     }
 
--- the search is done by then
-pub returns : goal.returns
-returns g c = let few = row_few c.requires c.loop.invariant in absurd (omega arith)
