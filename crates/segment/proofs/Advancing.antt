@@ -18,11 +18,11 @@ pub cutting : {j : ℕ} {s : State} {c : Cuts} → c ≡ cuts_of j s → Cuttabl
 cutting e a = rw e (record { able = a; rest_is = refl })
 
 -- those that end a fine search are no more than all
-pub last_able : (N : ℕ) {s : State} → Steppable s → Cuttable (last_cuts N s) s
-last_able N {s} p = fewer (min-le_right (cuts_to N s) (all_cuts s)) p.all
+pub last_able : {N : ℕ} {s : State} → Steppable N s → Cuttable (last_cuts N s) s
+last_able {N} {s} p = fewer (min-le_right (cuts_to N s) (all_cuts s)) p.all
 
-pub last_cutting : (N : ℕ) {s : State} {c : Cuts} → Steppable s → c ≡ cuts_of (last_cuts N s) s → Cutting c s
-last_cutting N p e = cutting e (last_able N p)
+pub last_cutting : {N : ℕ} {s : State} {c : Cuts} → Steppable N s → c ≡ cuts_of (last_cuts N s) s → Cutting c s
+last_cutting p e = cutting e (last_able p)
 
 -- ---- where the point below the start goes
 
@@ -63,5 +63,5 @@ module _ (j : ℕ) (s : State) where
   back_few c = mul-le-mul_right s.longs (div-le_of_le-mul s.short {n = j} (omega arith))
 
 -- all cuts are enough for every move from the left
-pub moves_few : {s : State} → Steppable s → s.distance / s.short ≤ all_cuts s
-moves_few {s} p = (le-div_iff_mul-le p.all.short_positive).1 (omega (arith, div-mul-le_self s.distance s.short))
+pub moves_few : {s : State} → Cuttable (all_cuts s) s → s.distance / s.short ≤ all_cuts s
+moves_few {s} p = (le-div_iff_mul-le p.short_positive).1 (omega (arith, div-mul-le_self s.distance s.short))

@@ -23,7 +23,7 @@ use Rattle.segment.specs.declared.sketch.Sketch.{Sketch}
 use Rattle.segment.proofs.Advancing.{moved_left, moves_few, short_gap, left_alone, moved, by_division}
 use Rattle.segment.proofs.Rows.{cuts_exact, cuts_inexact, rest_exact, rest_inexact, leaves_some, divided_ends}
 use Rattle.segment.proofs.Invariant.{Running, row_few}
-use Rattle.segment.proofs.Steps.{positive, falls, unreached, steppable}
+use Rattle.segment.proofs.Steps.{positive, falls, steppable}
 use Rattle.segment.proofs.Walks.{step_is, stays}
 use Rattle.segment.proofs.Stepping.{running_after, goes_on}
 
@@ -47,7 +47,7 @@ module _ {s : Segment} {odd : Bool} {t : State} (r : Running regular s odd t) wh
   -- the same test
   same_end : (d : ℕ) (l m : Bool) → (next_row s.count (sketch_of t l) d m).done ≡ ends s.count t
   unfolding next_row
-  same_end d l m = divided_ends (steppable r) refl s.count (unreached r)
+  same_end d l m = divided_ends (steppable r) refl
 
   -- where the search goes on, the same row
   same_row : ends s.count t ≡ false → (d : ℕ) (l m : Bool) → d ≡ (regular_next odd s.count t).distance
@@ -65,7 +65,7 @@ module _ {s : Segment} {odd : Bool} {t : State} (r : Running regular s odd t) wh
         wide = m;
         index = suc t.index;
         done = ends s.count t;
-      } = rw (rest_inexact t (positive r) h, cuts_inexact t (positive r) h, divided_ends (steppable r) refl s.count (unreached r)) in
+      } = rw (rest_inexact t (positive r) h, cuts_inexact t (positive r) h, divided_ends (steppable r) refl) in
       rw (← f) row
 
 -- ---- the distance after a row
@@ -73,7 +73,7 @@ module _ {s : Segment} {odd : Bool} {t : State} (r : Running regular s odd t) wh
 -- all moves from the left leave the remainder
 even_distance : {s : Segment} {t : State} → Running regular s false t → t.distance % t.short ≡ (regular_next false s.count t).distance
 unfolding regular_next cut_state
-even_distance {t = t} r = rw (← moved_left (all_cuts t) t (moves_few (steppable r)))
+even_distance {t = t} r = rw (← moved_left (all_cuts t) t (moves_few (steppable r).all))
 
 -- below the lowest cut the distance stays, else it is less by what the cuts leave
 pub below_lowest_cut : {d r : ℕ} → d < r → from_lowest_cut d r ≡ d
@@ -133,7 +133,7 @@ unfolding regular_next cut_state
 wide_after_even {s} {t} r e =
     let h = leaves_some t (positive r) (falls r) s.count e in
     let same = cuts_inexact t (positive r) h in
-    let moves = moves_few (steppable r) in
+    let moves = moves_few (steppable r).all in
     rw (← moved_left (all_cuts t) t moves, same)
     (by_cases (ℕ_discrete (t.distance / t.short) (quotient t))
     (λ m. rw (eq-eqb (t.distance / t.short) (quotient t) m) (sym (le-ltb _ _ (past m))))
@@ -177,7 +177,7 @@ divisible {s} {n} p =
     let t = state_after regular s n in
     rw p.is (record {
       short_positive = positive r;
-      below = omega (arith, (unreached r).below);
+      below = omega (arith, (steppable r).below);
       fits = ⊎_elim
           (λ z. omega (arith, (steppable r).all.fits, ap (λ (n : ℕ). n * t.longs) (cuts_exact t (positive r) (falls r) z)))
           (λ h. omega (arith, (steppable r).all.fits, ap (λ (n : ℕ). n * t.longs) (cuts_inexact t (positive r) h)))
@@ -227,12 +227,12 @@ module _ {s : Segment} (a : Accepted s) where
         done_is = done_is ∙ sym (ap (λ (t : State). t.done) t_is);
         distance_is = ap (λ (k : Sketch). k.distance) k_is ∙ sym (ap (λ (t : State). t.distance) t_is);
         sketched = λ d. let on : ends s.count (state_after regular s n) ≡ false = sym done_is ∙ d in
-        record {
-          runs = running_after regular a (suc n) (ap (λ (t : State). t.done) t_is ∙ on);
-          wide = q.wide_after;
-          is = k_is ∙ same_row p.runs on _ p.wide q.wide_after refl ∙ ap (λ (t : State). sketch_of t q.wide_after) (sym t_is);
-          wide_is = λ o. q.wide_after_is on o ∙ sym (ap (λ (t : State). ltb t.argument t.longs) t_is);
-        };
+            record {
+              runs = running_after regular a (suc n) (ap (λ (t : State). t.done) t_is ∙ on);
+              wide = q.wide_after;
+              is = k_is ∙ same_row p.runs on _ p.wide q.wide_after refl ∙ ap (λ (t : State). sketch_of t q.wide_after) (sym t_is);
+              wide_is = λ o. q.wide_after_is on o ∙ sym (ap (λ (t : State). ltb t.argument t.longs) t_is);
+            };
       })
       (λ e. let k_is = stays sketch_walk s n e in
       let t_is = stays (walk_of regular) s n (sym f.done_is ∙ e) in

@@ -18,11 +18,11 @@ use Rattle.geometry.specs.TwoLength.{Least}
 use Rattle.geometry.proofs.Laws.{short_positive, least}
 use Rattle.segment.specs.Accepted.{Accepted}
 use Rattle.segment.specs.Walk.{after, GoesOn}
-use Rattle.segment.specs.State.{points, first_state, next, Takes, walk_of, state_after}
+use Rattle.segment.specs.State.{points, first_state, next, Steppable, walk_of, state_after}
 use Rattle.segment.specs.Promise.{AtConfiguration, StepsCorrect}
 use Rattle.segment.specs.declared.state.State.{State}
 use Rattle.segment.proofs.Invariant.{Ended, Running, SearchInvariant, ends_here, begins, row_few}
-use Rattle.segment.proofs.Steps.{steppable, unreached, regular_step, fine_step, regular_index, fine_index, regular_grows, fine_grows}
+use Rattle.segment.proofs.Steps.{steppable, regular_step, fine_step, regular_index, fine_index, regular_grows, fine_grows}
 use Rattle.segment.proofs.Walks.{step_is, stays, done_29}
 
 -- ---- one step
@@ -70,11 +70,11 @@ module _ (k : Search) {s : Segment} (a : Accepted s) where
   running_after n = (stepped n).invariant.running
 
   -- where a row can be taken; 29 are enough
-  pub goes_on : GoesOn (walk_of k) Takes s
+  pub goes_on : GoesOn (walk_of k) Steppable s
   goes_on =
       record {
         few = λ n e. omega (arith, row_few (running_after n e), (stepped n).drawn e);
-        able = λ n e. let r = running_after n e in record { steppable = steppable r; unreached = unreached r };
+        able = λ n e. steppable (running_after n e);
       }
 
   done_within : (state_after k s 29).done ≡ true
@@ -133,4 +133,3 @@ module _ (k : Search) {s : Segment} (a : Accepted s) where
       -- the regular step always draws one
       always : k ≡ regular → (odd : Bool) (N : ℕ) (t : State) → (next k odd N t).index ≡ suc t.index
       always q odd N t = rw q (regular_index odd N t refl)
-

@@ -63,21 +63,13 @@ pub record Cutting (c : Cuts) (s : State) : Type 0 where
   pub able : Cuttable c.number s
   pub rest_is : c.rest ≡ s.long - c.number * s.short
 
--- all cuts can be made, and another row fits the budget
-pub record Steppable (s : State) : Type 0 where
+-- a row can be taken: all its cuts can be made, N is not reached, and another row fits the budget
+pub record Steppable (N : ℕ) (s : State) : Type 0 where
   pub all : Cuttable (all_cuts s) s
   pub falls : s.short ≤ s.long
-  pub row : s.index < 29
-
--- N is not reached
-pub record Unreached (N : ℕ) (s : State) : Type 0 where
   pub longs_positive : 0 < s.longs
   pub below : points s < N
-
--- a row can be taken: one is asked for N points, and they are not reached
-pub record Takes (N : ℕ) (s : State) : Type 0 where
-  pub steppable : Steppable s
-  pub unreached : Unreached N s
+  pub row : s.index < 29
 
 -- ---- the point below the start
 

@@ -38,4 +38,3 @@ loop-preserved g c =
       is = odd_taken c.loop.counter (even_goes_on c.loop.counter c.loop.invariant c.even_row-state.ensures c.is_done-in-loop.ensures c.if-is_done-2.false) c.odd_row-state.ensures;
       on = sym c.is_done-in-loop-2.ensures ∙ c.if-is_done-3.false;
     }
-

@@ -1,0 +1,9 @@
+-- `segment::state::Row::ends` meets its contract. Assumes nothing.
+use Rattle.segment.proofs.Rows.{last_ends, near_ends}
+use Rattle.segment.proofs.state.Row.ends.Goals as goal
+
+pub returns-then-self : goal.returns-then-self
+returns-then-self c = let p = c.args.self in near_ends p.steppable p.divided c.if-self.true
+
+pub returns-then-self-eq0 : goal.returns-then-self-eq0
+returns-then-self-eq0 c = let p = c.args.self in last_ends p.steppable p.divided c.if-self-eq0.true
