@@ -16,43 +16,28 @@ use Rattle.expansion.specs.Reached.Search.{regular}
 use Rattle.segment.specs.Walk.{after, GoesOn}
 use Rattle.geometry.specs.Segment.{Segment}
 use Rattle.segment.specs.Accepted.{Accepted}
-use Rattle.segment.specs.State.{quotient, all_cuts, first_state, cut_state, ends, regular_next, walk_of, state_after}
-use Rattle.segment.specs.Sketch.{first_sketch, Divisible, next_row, even_next, from_lowest_cut, odd_next, sketch_next, sketch_walk}
+use Rattle.segment.specs.State.{quotient, all_cuts, cut_state, ends, regular_next, walk_of, state_after}
+use Rattle.segment.specs.Sketch.{sketch_of, Divisible, next_row, from_lowest_cut, sketch_next, sketch_walk}
 use Rattle.segment.specs.declared.state.State.{State}
 use Rattle.segment.specs.declared.sketch.Sketch.{Sketch}
 use Rattle.segment.proofs.Advancing.{moved_left, moves_few, short_gap, left_alone, moved, by_division}
 use Rattle.segment.proofs.Rows.{cuts_exact, cuts_inexact, rest_exact, rest_inexact, leaves_some, divided_ends}
-use Rattle.segment.proofs.Invariant.{Running, row_few}
+use Rattle.segment.proofs.Invariant.{Running}
 use Rattle.segment.proofs.Steps.{positive, falls, steppable}
 use Rattle.segment.proofs.Walks.{step_is, stays}
 use Rattle.segment.proofs.Stepping.{running_after, goes_on}
-
--- a state without its argument and its part
-abbrev sketch_of : State → (wide : Bool) → Sketch
-sketch_of t l =
-    record {
-      long = t.long;
-      short = t.short;
-      longs = t.longs;
-      shorts = t.shorts;
-      distance = t.distance;
-      wide = l;
-      index = t.index;
-      done = t.done;
-    }
 
 -- ---- a row that is the last, and any other
 
 module _ {s : Segment} {odd : Bool} {t : State} (r : Running regular s odd t) where
   -- the same test
   same_end : (d : ℕ) (l m : Bool) → (next_row s.count (sketch_of t l) d m).done ≡ ends s.count t
-  unfolding next_row
   same_end d l m = divided_ends (steppable r) refl
 
   -- where the search goes on, the same row
   same_row : ends s.count t ≡ false → (d : ℕ) (l m : Bool) → d ≡ (regular_next odd s.count t).distance
       → next_row s.count (sketch_of t l) d m ≡ sketch_of (regular_next odd s.count t) m
-  unfolding next_row regular_next cut_state
+  unfolding regular_next cut_state
   same_row e d l m f =
       let h = leaves_some t (positive r) (falls r) s.count e in
       let row : next_row s.count (sketch_of t l) d m
@@ -63,7 +48,6 @@ module _ {s : Segment} {odd : Bool} {t : State} (r : Running regular s odd t) wh
         shorts = t.longs;
         distance = d;
         wide = m;
-        index = suc t.index;
         done = ends s.count t;
       } = rw (rest_inexact t (positive r) h, cuts_inexact t (positive r) h, divided_ends (steppable r) refl) in
       rw (← f) row
@@ -77,16 +61,14 @@ even_distance {t = t} r = rw (← moved_left (all_cuts t) t (moves_few (steppabl
 
 -- below the lowest cut the distance stays, else it is less by what the cuts leave
 pub below_lowest_cut : {d r : ℕ} → d < r → from_lowest_cut d r ≡ d
-unfolding from_lowest_cut
 below_lowest_cut {d} {r} h = rw (lt-ltb d r h) refl
 
 pub above_lowest_cut : {d r : ℕ} → r ≤ d → from_lowest_cut d r ≡ d - r
-unfolding from_lowest_cut
 above_lowest_cut {d} {r} h = rw (le-ltb d r h) refl
 
 -- with nothing left, it stays as well
 nothing_cut : {d r : ℕ} → r ≡ 0 → from_lowest_cut d r ≡ d
-nothing_cut z = above_lowest_cut (omega arith) ∙ omega arith
+nothing_cut {d} {r} z = above_lowest_cut {d = d} {r = r} (omega arith) ∙ omega arith
 
 module _ {s : Segment} {t : State} (r : Running regular s true t) where
   -- what all cuts leave of a long gap
@@ -182,7 +164,6 @@ divisible {s} {n} p =
           (λ z. omega (arith, (steppable r).all.fits, ap (λ (n : ℕ). n * t.longs) (cuts_exact t (positive r) (falls r) z)))
           (λ h. omega (arith, (steppable r).all.fits, ap (λ (n : ℕ). n * t.longs) (cuts_inexact t (positive r) h)))
           (eq-zero-or-pos (t.long % t.short));
-      row = row_few r;
     })
 
 -- the row of a sketch is that of its state, and tells whether the start lies in a long gap where the next row asks that
@@ -192,7 +173,6 @@ record SameRow (s : Segment) (odd : Bool) (t : State) (wide : Bool) : Type 0 whe
   wide_after_is : ends s.count t ≡ false → not odd ≡ true → wide_after ≡ ltb (regular_next odd s.count t).argument (regular_next odd s.count t).longs
 
 same : {s : Segment} (odd : Bool) {t : State} → Running regular s odd t → (wide : Bool) → (odd ≡ true → wide ≡ ltb t.argument t.longs) → SameRow s odd t wide
-unfolding even_next odd_next
 same false {t} r l w =
     record {
       wide_after = not (eqb (t.distance / t.short) (quotient t));
@@ -208,9 +188,8 @@ same true r l w =
 
 module _ {s : Segment} (a : Accepted s) where
   follows : (n : ℕ) → Follows s n (after sketch_walk s n)
-  unfolding next_row regular_next
-  follows zero = unfold after first_sketch first_state in
-      record {
+  unfolding regular_next
+  follows zero = unfold after in record {
         done_is = refl;
         distance_is = refl;
         sketched = λ d. record { runs = running_after regular a 0 d; wide = true; is = refl; wide_is = λ f. absurd (false≢true f) };

@@ -18,7 +18,7 @@ use Rattle.geometry.specs.TwoLength.{Least}
 use Rattle.geometry.proofs.Laws.{short_positive, least}
 use Rattle.segment.specs.Accepted.{Accepted}
 use Rattle.segment.specs.Walk.{after, GoesOn}
-use Rattle.segment.specs.State.{points, first_state, next, Steppable, walk_of, state_after}
+use Rattle.segment.specs.State.{points, next, Steppable, walk_of, state_after}
 use Rattle.segment.specs.Promise.{AtConfiguration, StepsCorrect}
 use Rattle.segment.specs.declared.state.State.{State}
 use Rattle.segment.proofs.Invariant.{Ended, Running, SearchInvariant, ends_here, begins, row_few}
@@ -51,7 +51,7 @@ record Stepped (k : Search) (s : Segment) (n : ℕ) (t : State) : Type 0 where
 
 module _ (k : Search) {s : Segment} (a : Accepted s) where
   stepped : (n : ℕ) → Stepped k s n (state_after k s n)
-  stepped zero = record { invariant = unfold after in begins k s a refl; drawn = unfold after first_state in λ _. refl }
+  stepped zero = record { invariant = unfold after in begins k s a refl; drawn = unfold after in λ _. refl }
   stepped (suc n) =
       let w = stepped n in
       ⊎_elim
@@ -120,7 +120,7 @@ module _ (k : Search) {s : Segment} (a : Accepted s) where
   steps_correct =
       record {
         at_configuration = at_configuration;
-        begins_at_one = unfold after first_state in refl;
+        begins_at_one = unfold after in refl;
         step_is = step_is (walk_of k) s;
         later = λ n e. rw (step_is (walk_of k) s n e) (grows k (running_after n e));
         not_enough = λ n e. (running_after n e).below;

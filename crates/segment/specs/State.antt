@@ -14,7 +14,7 @@ abbrev pub points : State → ℕ
 points s = s.longs + s.shorts
 
 -- one point: done where the step is 0 or the count is 1
-unfoldable pub first_state : (M a b N : ℕ) → State
+abbrev pub first_state : (M a b N : ℕ) → State
 first_state M a b N =
     record {
       long = M;
