@@ -190,10 +190,10 @@ module _ {s : Segment} (a : Accepted s) where
   follows : (n : ℕ) → Follows s n (after sketch_walk s n)
   unfolding regular_next
   follows zero = unfold after in record {
-        done_is = refl;
-        distance_is = refl;
-        sketched = λ d. record { runs = running_after regular a 0 d; wide = true; is = refl; wide_is = λ f. absurd (false≢true f) };
-      }
+    done_is = refl;
+    distance_is = refl;
+    sketched = λ d. record { runs = running_after regular a 0 d; wide = true; is = refl; wide_is = λ f. absurd (false≢true f) };
+  }
   follows (suc n) =
       let f = follows n in
       ⊎_elim

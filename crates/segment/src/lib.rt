@@ -105,10 +105,8 @@ pub fn regular_verdict(modulus: u64, step: u64, start: u64, count: u64, window: 
     if refuse(modulus, step, start, count, window) != 0 {
         return Verdict::Possible;
     }
-    judge(
-        end::<DistanceWalk>(modulus, step, start, count).distance,
-        window,
-    )
+    let sketch = end::<DistanceWalk>(modulus, step, start, count);
+    judge(sketch.distance, window)
 }
 
 // The number of the first condition that does not hold: 1 and 2 as for the expansion of the modulus and the step, else 3 for a start that is not

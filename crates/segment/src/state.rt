@@ -51,12 +51,13 @@ struct Row {
     ghost divided: { cuts ≡ cuts_of (quotient state) state },
 }
 
-// Cuts that a row has room for.
+// A row with cuts that it has room for.
 #[derive(Clone, Copy)]
-struct Cut {
+struct CutRow {
     state: State,
     cuts: Cuts,
     ghost able: { Cutting cuts state },
+    ghost within_budget: { state.index < 29 },
 }
 
 impl State {
@@ -109,7 +110,7 @@ impl Row {
         ensures { result ≡ regular_next ODD self.count self.state }
     {
         if self.cuts.rest == 0 {
-            let last = Cut {
+            let last = CutRow {
                 state: self.state,
                 cuts: Cuts {
                     number: self.cuts.number - 1,
@@ -118,7 +119,7 @@ impl Row {
             };
             return last.next_row(last.advance_all::<ODD>(), true);
         }
-        let all = Cut {
+        let all = CutRow {
             state: self.state,
             cuts: self.cuts,
         };
@@ -131,13 +132,13 @@ impl Row {
         ensures { result ≡ fine_next ODD self.count self.state }
     {
         if self.ends() {
-            let last = Cut {
+            let last = CutRow {
                 state: self.state,
                 cuts: self.last_cuts(),
             };
             return last.finish(last.advance::<ODD>(), last.cuts.number == self.cuts.number);
         }
-        let all = Cut {
+        let all = CutRow {
             state: self.state,
             cuts: self.cuts,
         };
@@ -148,7 +149,8 @@ impl Row {
     fn ends(self) -> bool
         ensures { result ≡ ends self.count self.state }
     {
-        if self.count - self.state.shorts - self.state.longs <= self.state.longs {
+        let state = self.state;
+        if self.count - state.shorts - state.longs <= state.longs {
             return true;
         }
         if self.cuts.rest == 0 {
@@ -162,23 +164,25 @@ impl Row {
         requires { 0 < self.cuts.rest }
         ensures { result ≡ ends self.count self.state }
     {
-        self.count - self.state.longs <= self.state.shorts + self.cuts.number * self.state.longs
+        let state = self.state;
+        self.count - state.longs <= state.shorts + self.cuts.number * state.longs
     }
 
     // As many cuts as reach the count, at most as many as leave something of a long gap.
     fn last_cuts(self) -> Cuts
         ensures { result ≡ cuts_of (last_cuts self.count self.state) self.state }
     {
+        let state = self.state;
         let all = self.cuts.number - (self.cuts.rest == 0) as u64;
-        let number = min((self.count - self.state.shorts - 1) / self.state.longs, all);
+        let number = min((self.count - state.shorts - 1) / state.longs, all);
         Cuts {
             number,
-            rest: self.state.long - number * self.state.short,
+            rest: state.long - number * state.short,
         }
     }
 }
 
-impl Cut {
+impl CutRow {
     // Where the cuts move the point below the start: from the left in even rows, from the right in odd ones.
     fn advance<const ODD: bool>(self) -> Nearest
         ensures { result ≡ advanced ODD self.cuts.number self.state }
@@ -204,10 +208,11 @@ impl Cut {
     fn advance_left(self) -> Nearest
         ensures { result ≡ advanced_left self.cuts.number self.state }
     {
-        let moves = min(self.cuts.number, self.state.distance / self.state.short);
+        let state = self.state;
+        let moves = min(self.cuts.number, state.distance / state.short);
         Nearest {
-            argument: self.state.argument + moves * self.state.longs,
-            distance: self.state.distance - moves * self.state.short,
+            argument: state.argument + moves * state.longs,
+            distance: state.distance - moves * state.short,
         }
     }
 
@@ -216,10 +221,10 @@ impl Cut {
         requires { self.cuts.number ≡ all_cuts self.state }
         ensures { result ≡ advanced_left self.cuts.number self.state }
     {
+        let state = self.state;
         Nearest {
-            argument: self.state.argument
-                + self.state.distance / self.state.short * self.state.longs,
-            distance: self.state.distance % self.state.short,
+            argument: state.argument + state.distance / state.short * state.longs,
+            distance: state.distance % state.short,
         }
     }
 
@@ -228,12 +233,13 @@ impl Cut {
     fn advance_right(self) -> Nearest
         ensures { result ≡ advanced_right self.cuts.number self.state }
     {
+        let state = self.state;
         let advanced = self.highest_cut();
-        if self.state.longs <= self.state.argument {
-            return self.state.nearest();
+        if state.longs <= state.argument {
+            return state.nearest();
         }
-        if self.state.distance < self.cuts.rest {
-            return self.state.nearest();
+        if state.distance < self.cuts.rest {
+            return state.nearest();
         }
         advanced
     }
@@ -242,49 +248,49 @@ impl Cut {
     fn highest_cut(self) -> Nearest
         ensures { result ≡ highest_cut self.cuts.number self.state }
     {
-        let over = saturating_sub(self.state.distance, self.cuts.rest);
-        let back = over / self.state.short;
+        let state = self.state;
+        let over = saturating_sub(state.distance, self.cuts.rest);
+        let back = over / state.short;
         Nearest {
-            argument: self.state.argument
-                + (self.state.shorts + self.cuts.number * self.state.longs
-                    - back * self.state.longs),
-            distance: over % self.state.short,
+            argument: state.argument
+                + (state.shorts + self.cuts.number * state.longs - back * state.longs),
+            distance: over % state.short,
         }
     }
 
     // The next row begins where what is left of the long gaps is shorter than the short ones. Where it is as long, there are as many points as the
     // period.
     fn next_row(self, point: Nearest, done: bool) -> State
-        requires { self.state.index < 29 }
         ensures { result ≡ in_next_row done (row_of self.state self.cuts point) }
     {
+        let state = self.state;
         State {
-            long: self.state.short,
+            long: state.short,
             short: self.cuts.rest,
-            longs: self.state.shorts + self.cuts.number * self.state.longs,
-            shorts: self.state.longs,
+            longs: state.shorts + self.cuts.number * state.longs,
+            shorts: state.longs,
             argument: point.argument,
             distance: point.distance,
             part: 0,
-            index: self.state.index + 1,
+            index: state.index + 1,
             done,
         }
     }
 
     // A fine search ends within a row, or with the whole of it at the beginning of the next. Nothing foretells which, so the label is selected.
     fn finish(self, point: Nearest, whole: bool) -> State
-        requires { self.state.index < 29 }
         ensures { result ≡ finished whole (row_of self.state self.cuts point) }
     {
+        let state = self.state;
         State {
             long: self.cuts.rest,
-            short: self.state.short,
-            longs: self.state.longs,
-            shorts: self.state.shorts + self.cuts.number * self.state.longs,
+            short: state.short,
+            longs: state.longs,
+            shorts: state.shorts + self.cuts.number * state.longs,
             argument: point.argument,
             distance: point.distance,
             part: self.cuts.number * !whole as u64,
-            index: self.state.index + whole as u32,
+            index: state.index + whole as u32,
             done: true,
         }
     }

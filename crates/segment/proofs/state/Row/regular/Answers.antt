@@ -4,7 +4,7 @@ use Rattle.segment.proofs.Rows.{last_number, last_row_cutting, last_step, row_nu
 use Rattle.segment.proofs.state.Row.regular.Goals as goal
 
 pub invariant_of-last : goal.invariant_of-last
-invariant_of-last g c = let p = c.args.self in record { able = last_row_cutting p.steppable p.divided c.if-self-eq0.true }
+invariant_of-last g c = let p = c.args.self in record { able = last_row_cutting p.steppable p.divided c.if-self-eq0.true; within_budget = c.args.self.steppable.row }
 
 pub advance_all-requires : goal.advance_all-requires
 advance_all-requires g c = let p = c.args.self in last_number p.steppable p.divided c.if-self-eq0.true
@@ -15,7 +15,7 @@ returns-then-self-eq0 g c =
     c.next_row.ensures ∙ last_step p.steppable p.divided c.if-self-eq0.true _ c.advance_all.ensures
 
 pub invariant_of-all : goal.invariant_of-all
-invariant_of-all g c = let p = c.args.self in record { able = row_cutting p.steppable p.divided c.if-self-eq0.false }
+invariant_of-all g c = let p = c.args.self in record { able = row_cutting p.steppable p.divided c.if-self-eq0.false; within_budget = c.args.self.steppable.row }
 
 pub advance_all-requires-2 : goal.advance_all-requires-2
 advance_all-requires-2 g c = let p = c.args.self in row_number p.steppable p.divided c.if-self-eq0.false

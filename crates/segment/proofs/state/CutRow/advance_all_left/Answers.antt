@@ -1,9 +1,9 @@
--- `segment::state::Cut::advance_all_left` meets its contract: the moves are no more than the cuts, and
+-- `segment::state::CutRow::advance_all_left` meets its contract: the moves are no more than the cuts, and
 -- fit with them. Assumes nothing.
 use Rattle.std.proofs.Common.{◌≤◌, ◌/◌, arith}
 use native.Mathlib.Nat.{mul-le-mul_right}
 use Rattle.segment.proofs.Advancing.{moved_left, moves_few}
-use Rattle.segment.proofs.state.Cut.advance_all_left.Goals as goal
+use Rattle.segment.proofs.state.CutRow.advance_all_left.Goals as goal
 
 pub overflow_mul-result : goal.overflow_mul-result
 overflow_mul-result c =

@@ -1,7 +1,7 @@
--- `segment::state::Cut::highest_cut` meets its contract. Assumes nothing.
+-- `segment::state::CutRow::highest_cut` meets its contract. Assumes nothing.
 use Rattle.std.proofs.Common.{arith, ◌≤◌, ◌*◌, ◌/◌}
 use Rattle.segment.proofs.Advancing.{by_division, back_few}
-use Rattle.segment.proofs.state.Cut.highest_cut.Goals as goal
+use Rattle.segment.proofs.state.CutRow.highest_cut.Goals as goal
 
 -- no more cuts are taken back than are made
 pub overflow_mul-result-2 : goal.overflow_mul-result-2
