@@ -58,10 +58,13 @@ module _ (j : ℕ) (s : State) where
   unfolding highest_cut
   by_division r = rw (r, mod-eq-sub-div-mul)
 
-  -- no more cuts are taken back than are made
-  pub back_few : Cuttable j s → (s.distance - (s.long - j * s.short)) / s.short * s.longs ≤ j * s.longs
-  back_few c = mul-le-mul_right s.longs (div-le_of_le-mul s.short {n = j} (omega arith))
+-- no more cuts are taken back than are made
+pub back_few : {c : Cuts} {s : State} {over : ℕ} → Cutting c s → over ≡ s.distance - c.rest
+    → over / s.short * s.longs ≤ c.number * s.longs
+back_few {c} {s} {over} p e =
+    mul-le-mul_right s.longs (div-le_of_le-mul s.short {n = c.number} (omega (arith, p.able, p.rest_is)))
 
 -- all cuts are enough for every move from the left
-pub moves_few : {s : State} → Cuttable (all_cuts s) s → s.distance / s.short ≤ all_cuts s
-moves_few {s} p = (le-div_iff_mul-le p.short_positive).1 (omega (arith, div-mul-le_self s.distance s.short))
+pub moves_few : {j : ℕ} {s : State} → j ≡ all_cuts s → Cuttable j s → s.distance / s.short ≤ j
+moves_few {s = s} e p =
+    rw e ((le-div_iff_mul-le p.short_positive).1 (omega (arith, div-mul-le_self s.distance s.short)))

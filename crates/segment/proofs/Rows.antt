@@ -2,14 +2,14 @@
 use mathlib.Core.Path.{◌≡◌, sym, ◌∙◌, ap}
 use mathlib.Core.Bool.{Bool, true, false, ◌||◌, cond, or-true, or-false, false≢true}
 use mathlib.Core.Logic.{⊎_elim, by_cases}
-use Prim.Native.Nat.{ℕ, suc, ◌+◌, ◌-◌, ◌*◌, ◌%◌, ◌≤◌, ◌<◌}
+use Prim.Native.Nat.{ℕ, suc, ◌+◌, ◌-◌, ◌*◌, ◌%◌, ◌^◌, ◌≤◌, ◌<◌}
 use native.Mathlib.Nat.{mul-le-mul_right, div-eq_of_lt-le, div-add-mod', eq-zero-or-pos, mod-lt, mod-eq-sub-div-mul}
 use native.Mathlib.Decide.{dec_le, ℕ_discrete}
 use native.Mathlib.Omega.{arith}
 use borrow.Author.Tests.{le-leb, lt-leb, eq-eqb, ne_eqb}
 use lib.Dec.{eqb, leb}
 use Rattle.numbers.proofs.Remainders.{quotient_positive}
-use Rattle.segment.specs.State.{quotient, all_cuts, last_cuts, cuts_of, Cutting, Steppable, advanced, row_of, cut_state, in_next_row, finished, ends, regular_next, fine_next}
+use Rattle.segment.specs.State.{points, quotient, all_cuts, last_cuts, cuts_of, Cutting, Steppable, advanced, row_of, cut_state, in_next_row, finished, ends, regular_next, fine_next}
 use Rattle.segment.specs.declared.state.State.{State}
 use Rattle.segment.specs.declared.state.Cuts.{Cuts}
 use Rattle.segment.specs.declared.state.Nearest.{Nearest}
@@ -116,6 +116,9 @@ module _ {N : ℕ} {s : State} (p : Steppable N s) {c : Cuts} (e : c ≡ cuts_of
     -- it can be cut so often
     pub row_cutting : Cutting c s
     row_cutting = cutting row_all p.all
+
+    pub row_fits : points s + c.number * s.longs ≤ 2 ^ 62
+    row_fits = row_cutting.able.fits
 
     pub row_ends : leb (N - s.longs) (s.shorts + c.number * s.longs) ≡ ends N s
     row_ends =

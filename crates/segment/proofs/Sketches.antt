@@ -57,7 +57,7 @@ module _ {s : Segment} {odd : Bool} {t : State} (r : Running regular s odd t) wh
 -- all moves from the left leave the remainder
 even_distance : {s : Segment} {t : State} → Running regular s false t → t.distance % t.short ≡ (regular_next false s.count t).distance
 unfolding regular_next cut_state
-even_distance {t = t} r = rw (← moved_left (all_cuts t) t (moves_few (steppable r).all))
+even_distance {t = t} r = rw (← moved_left (all_cuts t) t (moves_few refl (steppable r).all))
 
 -- below the lowest cut the distance stays, else it is less by what the cuts leave
 pub below_lowest_cut : {d r : ℕ} → d < r → from_lowest_cut d r ≡ d
@@ -115,7 +115,7 @@ unfolding regular_next cut_state
 wide_after_even {s} {t} r e =
     let h = leaves_some t (positive r) (falls r) s.count e in
     let same = cuts_inexact t (positive r) h in
-    let moves = moves_few (steppable r).all in
+    let moves = moves_few refl (steppable r).all in
     rw (← moved_left (all_cuts t) t moves, same)
     (by_cases (ℕ_discrete (t.distance / t.short) (quotient t))
     (λ m. rw (eq-eqb (t.distance / t.short) (quotient t) m) (sym (le-ltb _ _ (past m))))

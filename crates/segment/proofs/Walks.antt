@@ -3,7 +3,7 @@ use mathlib.Core.Path.{◌≡◌, refl, sym, ◌∙◌, ap, subst}
 use mathlib.Core.Bool.{Bool, true, false, not, cond}
 use mathlib.Core.Logic.{⊎_elim}
 use mathlib.Mathlib.Data.Bool.Basic.{dichotomy}
-use Prim.Native.Nat.{ℕ, zero, suc, ◌+◌, ◌-◌, ◌<◌}
+use Prim.Native.Nat.{ℕ, zero, suc, ◌+◌, ◌-◌}
 use native.Mathlib.Nat.{add-zero, add-suc, suc-add}
 use native.Mathlib.Omega.{arith}
 use Rattle.std.proofs.lemmas.Bool.{cases_lt}
@@ -37,45 +37,48 @@ pub record At {T : Type 0} (w : Walking T) (s : Segment) (n : ℕ) (t : T) : Typ
   pub on : w.done t ≡ false
 
 -- 29 rows are enough, and each is allowed
-module _ {T : Type 0} {w : Walking T} {Able : ℕ → T → Type 0} {s : Segment} (on : GoesOn w Able s) where
+module _ {T : Type 0} {w : Walking T} {Able : ℕ → T → Type 0} {s : Segment}
+    (on : GoesOn w Able s) where
   pub done_29 : w.done (after w s 29) ≡ true
-  done_29 = ⊎_elim (λ e. absurd (omega (arith, on.few 29 e))) (λ e. e) (dichotomy (w.done (after w s 29)))
+  done_29 =
+      ⊎_elim (λ e. absurd (omega (arith, on.few 29 e))) (λ e. e)
+      (dichotomy (w.done (after w s 29)))
 
   -- a search that is done stays where it is
   pub ends : (n : ℕ) {t : T} → t ≡ after w s n → w.done t ≡ true → t ≡ after w s 29
   ends n e d =
-      ⊎_elim (λ h. let left : n + (29 - n) ≡ 29 = omega arith in
+      ⊎_elim
+      (λ h. let left : n + (29 - n) ≡ 29 = omega arith in
       e ∙ sym (rw left at (stays_on w s n (29 - n) (ap w.done (sym e) ∙ d))))
       (λ h. let left : 29 + (n - 29) ≡ n = omega arith in
       e ∙ (rw left at (stays_on w s 29 (n - 29) done_29)))
       (cases_lt n 29)
 
-  module _ {n : ℕ} {t : T} (p : At w s n t) where
-    not_done : w.done (after w s n) ≡ false
-    not_done = ap w.done (sym p.is) ∙ p.on
-
-    pub row_few : n < 29
-    row_few = on.few n not_done
-
-    pub row_able : Able s.count t
-    row_able = let able : Able s.count (after w s n) = on.able n not_done in subst (Able s.count) (sym p.is) able
+  pub row_able : {n : ℕ} {t : T} → At w s n t → Able s.count t
+  row_able {n} p =
+      let able : Able s.count (after w s n) = on.able n (ap w.done (sym p.is) ∙ p.on) in
+      subst (Able s.count) (sym p.is) able
 
 -- two rows a turn, the first of them even
 begins_even : (i : ℕ) → is_odd (i + i) ≡ false
 begins_even zero = refl
 begins_even (suc i) = rw (suc-add, add-suc) (rw (begins_even i) refl)
 
-module _ {T : Type 0} {w : Walking T} {s : Segment} (i : ℕ) {t u : T} where
-  row_taken : (n : ℕ) {odd : Bool} → At w s n t → is_odd n ≡ odd → u ≡ w.next odd s.count t → u ≡ after w s (suc n)
-  row_taken n p d f = f ∙ (rw (d, sym p.is) at (sym (step_is w s n (ap w.done (sym p.is) ∙ p.on))))
+row_taken : {T : Type 0} {w : Walking T} {s : Segment} (n : ℕ) {odd : Bool} {t u : T}
+    → At w s n t → is_odd n ≡ odd → u ≡ w.next odd s.count t → u ≡ after w s (suc n)
+row_taken {w = w} {s} n p d f =
+    f ∙ (rw (d, sym p.is) at (sym (step_is w s n (ap w.done (sym p.is) ∙ p.on))))
 
+module _ {T : Type 0} {w : Walking T} {s : Segment} (i : ℕ) {t u : T} where
   pub even_taken : At w s (i + i) t → u ≡ w.next false s.count t → u ≡ after w s (suc (i + i))
   even_taken p = row_taken (i + i) p (begins_even i)
 
-  pub even_goes_on : {done : Bool} → At w s (i + i) t → u ≡ w.next false s.count t → done ≡ w.done u → done ≡ false → At w s (suc (i + i)) u
+  pub even_goes_on : {done : Bool} → At w s (i + i) t → u ≡ w.next false s.count t
+      → done ≡ w.done u → done ≡ false → At w s (suc (i + i)) u
   even_goes_on p f d e = record { is = even_taken p f; on = sym d ∙ e }
 
-  pub odd_taken : At w s (suc (i + i)) t → u ≡ w.next true s.count t → u ≡ after w s ((i + 1) + (i + 1))
+  pub odd_taken : At w s (suc (i + i)) t → u ≡ w.next true s.count t
+      → u ≡ after w s ((i + 1) + (i + 1))
   odd_taken p f =
       let turn : suc (suc (i + i)) ≡ (i + 1) + (i + 1) = omega arith in
       rw turn at (row_taken (suc (i + i)) p (ap not (begins_even i)) f)

@@ -140,7 +140,8 @@ fn judge(distance: u64, window: u64) -> Verdict
     ensures { result ≡ verdict_at distance window }
 {
     if window <= distance {
-        return Verdict::Clear;
+        Verdict::Clear
+    } else {
+        Verdict::Possible
     }
-    Verdict::Possible
 }

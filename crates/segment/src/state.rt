@@ -1,19 +1,22 @@
 // Where a search stands, and its steps.
 //
-// The multiples of the step by the arguments below a configuration's count cut the circle of length modulus into gaps of at most two
-// lengths (000, Property 1). A row of the expansion cuts every long gap by the short length, from one end: the left one in even rows, the right one
-// in odd rows. The argument and the distance of the point below the start advance where their own gap is cut.
+// The multiples of the step by the arguments below a configuration's count cut the circle of length
+// modulus into gaps of at most two lengths (000, Property 1). A row of the expansion cuts every
+// long gap by the short length, from one end: the left one in even rows, the right one in odd rows.
+// The argument and the distance of the point below the start advance where their own gap is cut.
 //
-// Only the end of a search is a branch. Another one that depends on the numbers of a row could not be foreseen, and would cost more than
-// a division: so a row divides whether or not it needs to, and selects what it needs of the results.
+// Only the end of a search is a branch. Another one that depends on the numbers of a row could not
+// be foreseen, and would cost more than a division: so a row divides whether or not it needs to,
+// and selects what it needs of the results.
 ghost use Rattle.std.specs.Prelude.{◌≡◌, true, false, ◌<◌};
 ghost use Rattle.segment.specs.State.{first_state, quotient, all_cuts, last_cuts, cuts_of, Cutting, nearest, advanced_left, highest_cut, advanced_right, advanced, row_of, in_next_row, finished, ends, Steppable, regular_next, fine_next};
 
 use crate::walk::Walk;
 use numbers::{min, saturating_sub};
 
-// longs gaps of length long and shorts gaps of length short, after part cuts of the row index; the argument of least residue below the count
-// longs + shorts, and its residue, the distance. Done: this is the configuration that the search reaches.
+// longs gaps of length long and shorts gaps of length short, after part cuts of the row index; the
+// argument of least residue below the count longs + shorts, and its residue, the distance. Done:
+// this is the configuration that the search reaches.
 #[derive(Clone, Copy)]
 pub(crate) struct State {
     pub(crate) long: u64,
@@ -41,7 +44,8 @@ struct Nearest {
     distance: u64,
 }
 
-// A row of a search that goes on, towards a count. Its cuts are as many as the quotient of the lengths, which may leave nothing of a long gap.
+// A row of a search that goes on, towards a count. Its cuts are as many as the quotient of the
+// lengths, which may leave nothing of a long gap.
 #[derive(Clone, Copy)]
 struct Row {
     state: State,
@@ -104,8 +108,8 @@ impl Row {
         }
     }
 
-    // The regular step draws a quotient: it cuts the long gaps as often as they can be, to the configuration of the next row, or to that of the
-    // period.
+    // The regular step draws a quotient: it cuts the long gaps as often as they can be, to the
+    // configuration of the next row, or to that of the period.
     fn regular<const ODD: bool>(self) -> State
         ensures { result ≡ regular_next ODD self.count self.state }
     {
@@ -126,8 +130,8 @@ impl Row {
         all.next_row(all.advance_all::<ODD>(), self.reaches())
     }
 
-    // The fine step does the same where the search goes on after it, and else goes to the first configuration that is not below the count; in the
-    // last row to the last one at most.
+    // The fine step does the same where the search goes on after it, and else goes to the first
+    // configuration that is not below the count; in the last row to the last one at most.
     fn fine<const ODD: bool>(self) -> State
         ensures { result ≡ fine_next ODD self.count self.state }
     {
@@ -145,7 +149,8 @@ impl Row {
         all.next_row(all.advance_all::<ODD>(), false)
     }
 
-    // Whether the search is done after all cuts of the row. One cut may be enough: that test does not wait for the division.
+    // Whether the search is done after all cuts of the row. One cut may be enough: that test does
+    // not wait for the division.
     fn ends(self) -> bool
         ensures { result ≡ ends self.count self.state }
     {
@@ -159,7 +164,8 @@ impl Row {
         self.reaches()
     }
 
-    // The same where the row leaves something of a long gap, and so is not the last: whether its cuts make as many points as the count.
+    // The same where the row leaves something of a long gap, and so is not the last: whether its
+    // cuts make as many points as the count.
     fn reaches(self) -> bool
         requires { 0 < self.cuts.rest }
         ensures { result ≡ ends self.count self.state }
@@ -183,14 +189,16 @@ impl Row {
 }
 
 impl CutRow {
-    // Where the cuts move the point below the start: from the left in even rows, from the right in odd ones.
+    // Where the cuts move the point below the start: from the left in even rows, from the right in
+    // odd ones.
     fn advance<const ODD: bool>(self) -> Nearest
         ensures { result ≡ advanced ODD self.cuts.number self.state }
     {
         if ODD {
-            return self.advance_right();
+            self.advance_right()
+        } else {
+            self.advance_left()
         }
-        self.advance_left()
     }
 
     // The same where they are all cuts of the row.
@@ -199,12 +207,14 @@ impl CutRow {
         ensures { result ≡ advanced ODD self.cuts.number self.state }
     {
         if ODD {
-            return self.advance_right();
+            self.advance_right()
+        } else {
+            self.advance_all_left()
         }
-        self.advance_all_left()
     }
 
-    // Cuts from the left come between the point and the start one by one, as long as there is room for a short length. In a short gap there is none.
+    // Cuts from the left come between the point and the start one by one, as long as there is room
+    // for a short length. In a short gap there is none.
     fn advance_left(self) -> Nearest
         ensures { result ≡ advanced_left self.cuts.number self.state }
     {
@@ -228,8 +238,9 @@ impl CutRow {
         }
     }
 
-    // Cuts from the right come between them only in a long gap, and only if the distance is at least what is left of it: a gap that is not cut is
-    // left alone. (In two tests after the division: of one test, or of one before it, the compiler makes a branch.)
+    // Cuts from the right come between them only in a long gap, and only if the distance is at
+    // least what is left of it: a gap that is not cut is left alone. (In two tests after the
+    // division: of one test, or of one before it, the compiler makes a branch.)
     fn advance_right(self) -> Nearest
         ensures { result ≡ advanced_right self.cuts.number self.state }
     {
@@ -258,8 +269,8 @@ impl CutRow {
         }
     }
 
-    // The next row begins where what is left of the long gaps is shorter than the short ones. Where it is as long, there are as many points as the
-    // period.
+    // The next row begins where what is left of the long gaps is shorter than the short ones. Where
+    // it is as long, there are as many points as the period.
     fn next_row(self, point: Nearest, done: bool) -> State
         ensures { result ≡ in_next_row done (row_of self.state self.cuts point) }
     {
@@ -277,7 +288,8 @@ impl CutRow {
         }
     }
 
-    // A fine search ends within a row, or with the whole of it at the beginning of the next. Nothing foretells which, so the label is selected.
+    // A fine search ends within a row, or with the whole of it at the beginning of the next.
+    // Nothing foretells which, so the label is selected.
     fn finish(self, point: Nearest, whole: bool) -> State
         ensures { result ≡ finished whole (row_of self.state self.cuts point) }
     {

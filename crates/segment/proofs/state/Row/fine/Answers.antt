@@ -6,19 +6,34 @@ use Rattle.segment.proofs.Rows.{end_step, on_number, on_cutting, on_step}
 use Rattle.segment.proofs.state.Row.fine.Goals as goal
 
 pub invariant_of-last : goal.invariant_of-last
-invariant_of-last g c = record { able = last_cutting c.args.self.steppable c.last_cuts.ensures; within_budget = c.args.self.steppable.row }
+invariant_of-last g c =
+    let row = c.args.self in
+    record {
+      able = last_cutting row.steppable c.last_cuts.ensures;
+      within_budget = row.steppable.row;
+    }
 
 pub returns-then-ends : goal.returns-then-ends
 returns-then-ends g c =
-    c.finish.ensures ∙ end_step _ _ _ c.ends.ensures c.if-ends.true c.args.self.divided c.last_cuts.ensures c.advance.ensures
+    c.finish.ensures
+    ∙ end_step _ _ _ c.ends.ensures c.if-ends.true c.args.self.divided c.last_cuts.ensures
+    c.advance.ensures
 
 pub invariant_of-all : goal.invariant_of-all
-invariant_of-all g c = let p = c.args.self in record { able = on_cutting p.steppable p.divided c.ends.ensures c.if-ends.false; within_budget = c.args.self.steppable.row }
+invariant_of-all g c =
+    let row = c.args.self in
+    record {
+      able = on_cutting row.steppable row.divided c.ends.ensures c.if-ends.false;
+      within_budget = row.steppable.row;
+    }
 
 pub advance_all-requires : goal.advance_all-requires
-advance_all-requires g c = let p = c.args.self in on_number p.steppable p.divided c.ends.ensures c.if-ends.false
+advance_all-requires g c =
+    let row = c.args.self in
+    on_number row.steppable row.divided c.ends.ensures c.if-ends.false
 
 pub returns : goal.returns
 returns g c =
-    let p = c.args.self in
-    c.next_row.ensures ∙ on_step p.steppable p.divided c.ends.ensures c.if-ends.false _ c.advance_all.ensures
+    let row = c.args.self in
+    c.next_row.ensures
+    ∙ on_step row.steppable row.divided c.ends.ensures c.if-ends.false _ c.advance_all.ensures
