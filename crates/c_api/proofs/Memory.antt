@@ -1,8 +1,7 @@
 -- What is returned and left in memory after a refusal and after an answer. Assumes nothing.
-use Rattle.std.proofs.Common.{◌≡◌, ℕ, zero, suc, ◌<◌, Result, Ok, Err, refl, sym, arith}
+use Rattle.std.proofs.Common.{◌≡◌, ℕ, suc, Result, Ok, Err, refl, arith}
 use Rattle.numbers.specs.Refusals.{number_of, number_in}
 use Rattle.numbers.specs.declared.refusals.Refusal.{Refusal}
-use Rattle.numbers.proofs.Outcomes.{number_positive}
 use Rattle.c_api.specs.Memory.{handed}
 
 module _ {A B : Type 0} (over : A → B) {r : Result A Refusal} (old : B) where

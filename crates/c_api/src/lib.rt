@@ -29,9 +29,12 @@ pub extern "C" fn geyserdish_expand(
     match expansion::expand(modulus, step) {
         Err(refusal) => u32::from(refusal),
         Ok(table) => {
-            *remainders = table.remainders;
-            *denominators = table.denominators;
-            *quotients = table.quotients;
+            let r = table.remainders;
+            *remainders = r;
+            let d = table.denominators;
+            *denominators = d;
+            let q = table.quotients;
+            *quotients = q;
             *last = table.last as u64;
             0
         }
@@ -54,7 +57,8 @@ pub extern "C" fn geyserdish_digits(
     match ostrowski::digits(modulus, step, argument) {
         Err(refusal) => u32::from(refusal),
         Ok(found) => {
-            *digits = found.digits;
+            let d = found.digits;
+            *digits = d;
             *count = found.count as u64;
             0
         }
@@ -186,7 +190,14 @@ pub extern "C" fn geyserdish_scan_segment(
     ensures values_after { values.new ≡ scan_values_after modulus step start count window (length list.old) values.old }
     ensures listed_after { listed.new ≡ scan_memory (scan_answer modulus step start count window (length list.old) (length values.old)) listed.old }
 {
-    match domain::scan_segment(modulus, step, start, count, window, list, values) {
+    let segment = segment::Segment {
+        modulus,
+        step,
+        start,
+        count,
+        window,
+    };
+    match domain::scan_segment(segment, list, values) {
         Err(refusal) => u32::from(refusal),
         Ok(number) => {
             *listed = number as u64;
