@@ -30,6 +30,7 @@ impl<'a> Writer<'a> {
     }
 
     // Writes bytes, as far as there are places.
+    #[tactic(auto, using(crate::proofs::Writing::front_written))]
     pub fn put(&mut self, bytes: &[u8])
         ensures { Wrote self.old bytes.now self.new }
     {
