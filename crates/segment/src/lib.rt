@@ -136,6 +136,7 @@ pub fn refuse(modulus: u64, step: u64, start: u64, count: u64, window: u64) -> u
     0
 }
 
+#[tactic(auto, unfolding(crate::specs::Search::verdict_at))]
 fn judge(distance: u64, window: u64) -> Verdict
     ensures { result ≡ verdict_at distance window }
 {
