@@ -309,7 +309,8 @@ impl CutRow {
     }
 }
 
-// The regular search.
+// The regular search. The fine one beside it differs in its step alone; one impl for both would
+// need a parameter that says which, and a test of it in each row: no plainer.
 pub(crate) struct RegularWalk;
 
 impl Walk for RegularWalk {
