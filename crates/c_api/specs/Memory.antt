@@ -3,7 +3,7 @@ use Rattle.std.specs.Prelude.{◌≡◌, List, [], ◌∷◌, ℕ, ℤ, Result, 
 use Rattle.numbers.specs.Refusals.{number_in}
 use Rattle.numbers.specs.declared.refusals.Refusal.{Refusal}
 use Rattle.expansion.specs.declared.Table.{Table}
-use Rattle.ostrowski.specs.declared.Digits.{Digits}
+use Rattle.ostrowski.specs.declared.Numeral.{Numeral}
 use Rattle.segment.specs.declared.Verdict.{Verdict}
 use Rattle.segment.specs.declared.Verdict.TheVariants.{Clear, Possible}
 use Rattle.segment.specs.declared.Regular.{Regular}
@@ -26,11 +26,11 @@ pub record Delivered (answered : Result Table Refusal) (number : ℕ) (old new :
   pub left : new ≡ handed (λ t. t) answered old
 
 -- the 88 places that a call leaves, and how many of them are digits: those of the answer, or what was there
-abbrev pub digits_memory : Result Digits Refusal → (old : List ℕ) → List ℕ
-digits_memory a old = handed (λ (d : Digits). d.digits) a old
+abbrev pub digits_memory : Result Numeral Refusal → (old : List ℕ) → List ℕ
+digits_memory a old = handed (λ (d : Numeral). d.digits) a old
 
-abbrev pub count_memory : Result Digits Refusal → (old : ℕ) → ℕ
-count_memory a old = handed (λ (d : Digits). d.count) a old
+abbrev pub count_memory : Result Numeral Refusal → (old : ℕ) → ℕ
+count_memory a old = handed (λ (d : Numeral). d.count) a old
 
 -- the number that a residue, a division or a scan leaves: the one answered, or what was there
 abbrev pub number_memory : Result ℕ Refusal → (old : ℕ) → ℕ

@@ -4,7 +4,7 @@ use Rattle.numbers.specs.Checklist.{AllHold, RefusedBy}
 use Rattle.numbers.specs.Refusals.{number_in}
 use Rattle.expansion.specs.Answer.{answer}
 use Rattle.expansion.specs.declared.Table.{Table}
-use Rattle.ostrowski.specs.declared.Digits.{Digits}
+use Rattle.ostrowski.specs.declared.Numeral.{Numeral}
 use Rattle.expansion.specs.Rows.{period}
 use Rattle.ostrowski.specs.Answer.{digits_answer, residue_answer, divide_answer}
 use Rattle.ostrowski.specs.Promise as digits_promise
@@ -30,7 +30,7 @@ pub record Promised : Type 0 where
       → Delivered (answer M a) n (memory us qs ks m) (memory us' qs' ks' m') ↔ ((n ≡ suc k) × (us' ≡ us) × (qs' ≡ qs) × (ks' ≡ ks) × (m' ≡ m))
   pub digits_unchanged : (M a x n k : ℕ) (old : List ℕ) → number_in (digits_answer M a x) ≡ suc n
       → (digits_memory (digits_answer M a x) old ≡ old) × (count_memory (digits_answer M a x) k ≡ k)
-  pub digits_numbers : (M a x k : ℕ) (old : List ℕ) (d : Digits) → digits_answer M a x ≡ Ok d
+  pub digits_numbers : (M a x k : ℕ) (old : List ℕ) (d : Numeral) → digits_answer M a x ≡ Ok d
       → (digits_memory (digits_answer M a x) old ≡ d.digits) × (count_memory (digits_answer M a x) k ≡ d.count)
   pub residue_accepted : (M a x : ℕ) → (number_in (residue_answer M a x) ≡ 0) ↔ AllHold (digits_promise.ArgumentAsked M a x)
   pub residue_refused : (M a x n : ℕ) → (number_in (residue_answer M a x) ≡ suc n) ↔ RefusedBy (digits_promise.ArgumentAsked M a x) (suc n)

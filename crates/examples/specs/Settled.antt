@@ -8,7 +8,7 @@ use Rattle.expansion.specs.Rows.{expansion, remainders, denominators, quotients}
 use Rattle.expansion.specs.Configurations.{counts, regular, fine}
 use Rattle.expansion.specs.Answer.{answer}
 use Rattle.ostrowski.specs.Answer.{digits_answer, residue_answer, divide_answer}
-use Rattle.ostrowski.specs.declared.Digits.{Digits}
+use Rattle.ostrowski.specs.declared.Numeral.{Numeral}
 use Rattle.geometry.specs.Segment.{segment, hard_list}
 use Rattle.segment.specs.Answer.{regular_answer, fine_answer}
 use Rattle.segment.specs.declared.Verdict.{Verdict}
@@ -378,7 +378,7 @@ pub record CountedFromTheBinade : Type 0 where
 -- ---- digits of an argument, and modular division (2.4)
 
 -- an answer with these digits, so many
-abbrev pub digits_are : (digits : List ℕ) → (count : ℕ) → Result Digits Refusal
+abbrev pub digits_are : (digits : List ℕ) → (count : ℕ) → Result Numeral Refusal
 digits_are d m = Ok (record { digits = d; count = m })
 
 pub record DigitsAndDivision : Type 0 where

@@ -1,45 +1,51 @@
--- The loop of `divide`: at each row it stands in a partial division, and every number fits. What is answered at its end. Assumes nothing.
-use mathlib.Core.Path.{◌≡◌, sym, ◌∙◌}
-use Prim.Native.Nat.{ℕ, ◌+◌, ◌-◌, ◌*◌, ◌/◌, ◌%◌, ◌^◌, ◌≤◌, ◌<◌}
+-- The loop of `divide`: at each row it stands in a partial division, and every number fits. What is
+-- answered at its end. Assumes nothing.
+use Rattle.std.proofs.Common.{◌≡◌, ℕ, suc, ◌+◌, ◌-◌, ◌*◌, ◌/◌, ◌%◌, ◌^◌, ◌≤◌, ◌<◌, Bool, true, false, not, Ok, Err, refl, sym, ap, ◌∙◌, arith}
 use native.Mathlib.Nat.{pos_of_ne-zero, mod-lt, mod-eq-zero_of_dvd, dvd_of_mod-eq-zero}
-use native.Mathlib.Numerals.{add-one}
-use native.Mathlib.Omega.{arith}
 use Rattle.numbers.specs.Divisors.{gcd}
-use Rattle.numbers.proofs.Parity.{parity_correct}
+use Rattle.numbers.specs.Parity.{is_odd}
+use Rattle.numbers.specs.declared.refusals.Refusal.TheVariants.{Target}
 use Rattle.expansion.specs.Rows.{period}
 use Rattle.expansion.proofs.Promises as expansion
-use Rattle.expansion.proofs.Laws.{not_last}
 use Rattle.ostrowski.specs.Answer.{divide_answer}
-use Rattle.ostrowski.specs.declared.NumberAnswer.TheVariants.{Refused, Found}
 use Rattle.ostrowski.proofs.Division.{PartialDivision, difference_of_sums, start, next, next_below, period_is, end_below, period_positive, even_solves, odd_solves, rest_is}
-use Rattle.ostrowski.proofs.Refusals.{Accepted, last_refused, none_refused}
+use Rattle.ostrowski.proofs.Refusals.{Accepted, last_refused}
 use Rattle.ostrowski.proofs.Answers.{divide_answer_correct}
 
-pub record Dividing (M a t b u p q rest same other row : ℕ) : Type 0 where
+-- at a row, even or odd
+pub record Dividing (M a t b u p q rest same other : ℕ) (odd : Bool) : Type 0 where
   pub accepted : Accepted M a
   pub target : t < M
+  pub row : ℕ
+  pub parity : odd ≡ is_odd row
   pub taken : PartialDivision M a t row b u p q rest same other
 
-pub dividing_first : {M a t : ℕ} → Accepted M a → t < M → Dividing M a t M a 0 1 t 0 0 0
-dividing_first {t = t} h l = record { accepted = h; target = l; taken = start h.small t l }
+pub dividing_first : {M a t : ℕ} → Accepted M a → t < M → Dividing M a t M a 0 1 t 0 0 false
+dividing_first {t = t} h l = record { accepted = h; target = l; row = 0; parity = refl; taken = start h.small t l }
 
 -- a target at or above the modulus
-pub above : {M a t : ℕ} → Accepted M a → M ≤ t → Refused 10 ≡ divide_answer M a t
-above {M} {a} {t} h l = sym (((divide_answer_correct M a t).refused 10).1 (last_refused h (λ p. omega arith)))
+pub above : {M a t : ℕ} → Accepted M a → M ≤ t → Err Target ≡ divide_answer M a t
+above {M} {a} {t} h l = sym (((divide_answer_correct M a t).refused Target).1 (last_refused h (λ p. omega arith)))
 
-module _ {M a t b u p q rest same other row : ℕ} (d : Dividing M a t b u p q rest same other row) where
+module _ {M a t b u p q rest same other : ℕ} {odd : Bool} (d : Dividing M a t b u p q rest same other odd) where
   module _ (some : u ≡ 0 → ⊥) where
     positive : 0 < u
     positive = pos_of_ne-zero some
 
-    pub dividing_next : Dividing M a t u (b % u) q (p + b / u * q) (rest % u) other (same + rest / u * q) (row + 1)
-    dividing_next = record { accepted = d.accepted; target = d.target; taken = rw (add-one row) (next d.accepted.small d.taken positive) }
+    pub dividing_next : Dividing M a t u (b % u) q (p + b / u * q) (rest % u) other (same + rest / u * q) (not odd)
+    dividing_next =
+        record { accepted = d.accepted; target = d.target; row = suc d.row; parity = ap not d.parity; taken = next d.accepted.small d.taken positive }
 
     -- the next denominator is at most the modulus
     pub next_fits : p + b / u * q ≤ 2 ^ 62
     next_fits =
         let w = dividing_next.taken.drawn in
-        omega (arith, w.denominator_is, ((expansion.promised).bounded M a d.accepted.small).denominator_within (row + 1) w.there, d.accepted.most)
+        omega (
+          arith,
+          w.denominator_is,
+          ((expansion.promised).bounded M a d.accepted.small).denominator_within dividing_next.row w.there,
+          d.accepted.most,
+        )
 
     -- a sum is less than this denominator and the next together
     pub sum_fits : same + rest / u * q < 2 ^ 63
@@ -50,13 +56,9 @@ module _ {M a t b u p q rest same other row : ℕ} (d : Dividing M a t b u p q r
           next_fits,
           next_below d.accepted.small d.taken positive,
           w.denominator_is,
-          ((expansion.promised).bounded M a d.accepted.small).denominator_within row w.there,
+          ((expansion.promised).bounded M a d.accepted.small).denominator_within d.row w.there,
           d.accepted.most,
         )
-
-    pub row_fits : row < 88
-    row_fits =
-        omega (arith, not_last d.accepted.small d.taken.drawn positive, ((expansion.promised).few M a d.accepted.small).last_at_most_88 d.accepted.most)
 
   -- at the end of the loop
   module _ (z : u ≡ 0) where
@@ -76,7 +78,7 @@ module _ {M a t b u p q rest same other row : ℕ} (d : Dividing M a t b u p q r
           period_positive small,
           end_below small d.taken z,
           w.denominator_is,
-          ((expansion.promised).bounded M a small).denominator_within row w.there,
+          ((expansion.promised).bounded M a small).denominator_within d.row w.there,
           d.accepted.most,
         )
 
@@ -84,20 +86,20 @@ module _ {M a t b u p q rest same other row : ℕ} (d : Dividing M a t b u p q r
     rest_left = rest_is small d.taken z d.target
 
     -- something is left: the target is no multiple
-    pub no_multiple : (rest ≡ 0 → ⊥) → Refused 10 ≡ divide_answer M a t
+    pub no_multiple : (rest ≡ 0 → ⊥) → Err Target ≡ divide_answer M a t
     no_multiple n =
-        sym (((divide_answer_correct M a t).refused 10).1 (last_refused d.accepted (λ h. n (rest_left ∙ mod-eq-zero_of_dvd (gcd a M) h.1))))
+        sym (((divide_answer_correct M a t).refused Target).1 (last_refused d.accepted (λ h. n (rest_left ∙ mod-eq-zero_of_dvd (gcd a M) h.1))))
 
     module _ (none : rest ≡ 0) where
-      answered : (x : ℕ) → x < period M a → a * x % M ≡ t - rest → Found x ≡ divide_answer M a t
+      answered : (x : ℕ) → x < period M a → a * x % M ≡ t - rest → Ok x ≡ divide_answer M a t
       answered x l e =
           sym (((divide_answer_correct M a t).found x).1
-          (none_refused d.accepted (d.target, dvd_of_mod-eq-zero (gcd a M) (sym rest_left ∙ none)), (l, e ∙ omega (arith, none))))
+          (((d.accepted.low, d.accepted.most), (small, ((d.target, dvd_of_mod-eq-zero (gcd a M) (sym rest_left ∙ none)), tt))), (l, e ∙ omega (arith, none))))
 
-      pub even_answer : row % 2 ≡ 0 → Found (difference_of_sums q same other) ≡ divide_answer M a t
+      pub even_answer : odd ≡ false → Ok (difference_of_sums q same other) ≡ divide_answer M a t
       even_answer e =
-          rw end (answered (difference_of_sums (period M a) same other) (mod-lt _ (period_positive small)) (even_solves small d.taken z d.target ((parity_correct row).even.1 e)))
+          rw end (answered (difference_of_sums (period M a) same other) (mod-lt _ (period_positive small)) (even_solves small d.taken z d.target (sym d.parity ∙ e)))
 
-      pub odd_answer : (row % 2 ≡ 0 → ⊥) → Found (difference_of_sums q other same) ≡ divide_answer M a t
+      pub odd_answer : odd ≡ true → Ok (difference_of_sums q other same) ≡ divide_answer M a t
       odd_answer e =
-          rw end (answered (difference_of_sums (period M a) other same) (mod-lt _ (period_positive small)) (odd_solves small d.taken z d.target ((parity_correct row).odd.1 (omega (arith, e, mod-lt row {m = 2} (omega arith))))))
+          rw end (answered (difference_of_sums (period M a) other same) (mod-lt _ (period_positive small)) (odd_solves small d.taken z d.target (sym d.parity ∙ e)))

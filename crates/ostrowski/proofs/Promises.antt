@@ -1,10 +1,8 @@
 -- All that is promised of digits, residues and modular division. Assumes nothing.
-use mathlib.Core.Path.{◌≡◌, refl, sym, ◌∙◌, ap}
-use Prim.Native.Nat.{ℕ, ◌<◌}
+use Rattle.std.proofs.Common.{◌≡◌, ℕ, ◌<◌, Ok, refl, sym, ap, ◌∙◌}
 use Rattle.expansion.specs.Rows.{period}
 use Rattle.ostrowski.specs.Digits.{digits_of, residue_of}
-use Rattle.ostrowski.specs.Answer.{residue_answer, divide_answer, refusal_of, found_of}
-use Rattle.ostrowski.specs.declared.NumberAnswer.TheVariants.{Found}
+use Rattle.ostrowski.specs.Answer.{residue_answer, divide_answer}
 use Rattle.ostrowski.specs.Promise.{DigitsCorrect, Promised}
 use Rattle.ostrowski.proofs.Writing.{digits_allowed, digits_sum_to, digits_are, list_correct}
 use Rattle.ostrowski.proofs.Residues.{digits_residue, term_below, product_below}
@@ -24,20 +22,19 @@ module _ (M a x : ℕ) (small : a < M) (within : x < period M a) where
 
 -- where one finds a number, all holds that is asked of the other
 module _ (M a x t : ℕ) where
-  divides : residue_answer M a x ≡ Found t → divide_answer M a t ≡ Found x
+  divides : residue_answer M a x ≡ Ok t → divide_answer M a t ≡ Ok x
   divides e =
       let h = ((residue_answer_correct M a x).found t).0 e in
       let p = h.0 in
       ((divide_answer_correct M a t).found x).1 ((p.0, (p.1.0, ((target_correct M a p.1.0 t).anywhere x (sym h.1), tt))), (p.1.1.0, sym h.1))
 
-  multiplies : divide_answer M a t ≡ Found x → residue_answer M a x ≡ Found t
+  multiplies : divide_answer M a t ≡ Ok x → residue_answer M a x ≡ Ok t
   multiplies e =
       let h = ((divide_answer_correct M a t).found x).0 e in
       let p = h.0 in
       ((residue_answer_correct M a x).found t).1 ((p.0, (p.1.0, (h.1.0, tt))), sym h.1.1)
 
 pub promised : Promised
-unfolding refusal_of found_of
 promised =
     record {
       digits = λ M a x small within. digits_correct M a x small within;
@@ -47,5 +44,5 @@ promised =
       residue_answers = residue_answer_correct;
       divide_answers = divide_answer_correct;
       inverse = λ M a x t. (divides M a x t, multiplies M a x t);
-      numbers = λ n. (refl, refl, refl, refl);
+      numbers = λ r n. (refl, refl);
     }

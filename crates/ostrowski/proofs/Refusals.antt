@@ -1,46 +1,73 @@
 -- When each refusal is given: 1 and 2 as in the expansion, then 9 or 10. Assumes nothing.
-use mathlib.Core.Path.{◌≡◌, refl, sym, ◌∙◌}
-use mathlib.Core.List.{List, [], ◌∷◌}
-use mathlib.Core.Logic.{◌↔◌, inl, inr}
-use Prim.Native.Nat.{ℕ, ◌^◌, ◌≤◌, ◌<◌}
-use native.Mathlib.Omega.{arith}
-use Rattle.numbers.specs.Checklist.{Condition, condition, conditions, AllHold, RefusedBy}
-use Rattle.numbers.proofs.Checklists.{accepts, gives, refused_before}
+use Rattle.std.proofs.Common.{◌≡◌, ℕ, ◌^◌, ◌≤◌, ◌<◌, List, [], ◌∷◌, ◌++◌, Ok, Err, ◌↔◌, inl, inr, refl, sym, ap, ◌∙◌}
+use Rattle.numbers.specs.Checklist.{Check, check, condition, conditions, first_failing, AllHold, RefusedBy, Numbered}
+use Rattle.numbers.specs.Refusals.{number_of, named, IsNamed, outcome, number_in}
+use Rattle.numbers.specs.declared.refusals.Refusal.{Refusal}
+use Rattle.numbers.proofs.Checklists.{AllNumbers, accepts, gives, first_of_two}
+use Rattle.numbers.proofs.Outcomes.{outcome_shown, shown_accepted, refused_alike, outcome_number, failing_named, outcome_refused}
 use Rattle.expansion.specs.Answer.{checks, refusal}
 use Rattle.expansion.proofs.Promises as expansion
 use Rattle.ostrowski.specs.Answer.{argument_checks, target_checks, argument_refusal, target_refusal}
-use Rattle.ostrowski.specs.Promise.{ArgumentAsked, TargetAsked}
 
--- ---- the numbers of the checklists
+-- ---- an answer by a checklist
 
-module _ (M a x : ℕ) where
-  pub argument_gives : (n : ℕ) → ((argument_refusal M a x ≡ n) × (n ≡ 0 → ⊥)) ↔ RefusedBy (ArgumentAsked M a x) n
+module _ {A : Type 0} where
+  -- a refusal is given with a number that is not 0
+  error_positive : (n : ℕ) (a : A) {r : Refusal} → outcome n a ≡ Err r → n ≡ 0 → ⊥
+  error_positive n a e z = let f = outcome_shown a z in cc
+
+  -- and what is there is what the answer is made of
+  pub shown_is : (n : ℕ) (a : A) {x : A} → outcome n a ≡ Ok x → x ≡ a
+  shown_is n a e = let f = outcome_shown a (shown_accepted n a e) in cc
+
+  -- so that whatever else is asked for is there too
+  pub shown_alike : {B : Type 0} (n : ℕ) (a : A) (b : B) {x : A} → outcome n a ≡ Ok x → Ok b ≡ outcome n b
+  shown_alike n a b e = sym (outcome_shown b (shown_accepted n a e))
+
+  module _ (cs : List Check) (a : A) (some : Numbered (conditions cs)) where
+    -- it is a refusal exactly where its condition is the first that does not hold
+    pub refused_by : AllNumbers IsNamed (conditions cs) → (r : Refusal) → (outcome (first_failing cs) a ≡ Err r) ↔ RefusedBy (conditions cs) (number_of r)
+    refused_by all r = (
+      λ e.
+          let n : first_failing cs ≡ number_of r = sym (outcome_number (first_failing cs) a (failing_named cs all)) ∙ ap number_in e in
+          (gives cs some (number_of r)).0 (n, λ z. error_positive (first_failing cs) a e (n ∙ z)),
+      λ h. sym (outcome_refused cs r a h),
+    )
+
+    -- and what is there exactly where every condition holds
+    pub shown_by : (x : A) → (outcome (first_failing cs) a ≡ Ok x) ↔ (AllHold (conditions cs) × (x ≡ a))
+    shown_by x = (
+      λ e. ((accepts cs some).0 (shown_accepted (first_failing cs) a e), shown_is (first_failing cs) a e),
+      λ h. outcome_shown a ((accepts cs some).1 h.0) ∙ ap Ok (sym h.1),
+    )
+
+-- ---- the two checklists
+
+-- each number of theirs is that of a refusal
+pub argument_named : (M a x : ℕ) → AllNumbers IsNamed (conditions (argument_checks M a x))
+unfolding named
+argument_named M a x = (refl, (refl, (refl, tt)))
+
+pub target_named : (M a t : ℕ) → AllNumbers IsNamed (conditions (target_checks M a t))
+unfolding named
+target_named M a t = (refl, (refl, (refl, tt)))
+
+-- what is asked after the modulus and the step does not matter where one of them is refused
+module _ {A B : Type 0} (M a : ℕ) (t : A) (b : B) {e : Refusal} where
+  first_refused : {H : Type 0} (k : ℕ) (d : Dec H) → outcome (refusal M a) t ≡ Err e
+      → outcome (first_failing (checks M a ++ (check k d ∷ []))) b ≡ Err e
+  unfolding refusal
+  first_refused k d h =
+      refused_alike _ t b
+      (ap (λ (n : ℕ). outcome n t) (first_of_two (checks M a) (check k d ∷ []) refl (error_positive (refusal M a) t h)) ∙ h)
+
+  pub argument_first : (x : ℕ) → outcome (refusal M a) t ≡ Err e → outcome (argument_refusal M a x) b ≡ Err e
   unfolding argument_refusal
-  argument_gives = gives (argument_checks M a x) (omega arith)
+  argument_first x h = first_refused 9 _ h
 
-  pub argument_accepts : (argument_refusal M a x ≡ 0) ↔ AllHold (ArgumentAsked M a x)
-  unfolding argument_refusal
-  argument_accepts = accepts (argument_checks M a x) (omega arith)
-
-module _ (M a t : ℕ) where
-  pub target_gives : (n : ℕ) → ((target_refusal M a t ≡ n) × (n ≡ 0 → ⊥)) ↔ RefusedBy (TargetAsked M a t) n
+  pub target_first : (x : ℕ) → outcome (refusal M a) t ≡ Err e → outcome (target_refusal M a x) b ≡ Err e
   unfolding target_refusal
-  target_gives = gives (target_checks M a t) (omega arith)
-
-  pub target_accepts : (target_refusal M a t ≡ 0) ↔ AllHold (TargetAsked M a t)
-  unfolding target_refusal
-  target_accepts = accepts (target_checks M a t) (omega arith)
-
--- ---- what the programs find
-
--- what is asked of a modulus and a step, and a condition after it
-abbrev pub AskedWith : (M a number : ℕ) → (holds : Type 0) → List Condition
-AskedWith M a k H = condition 1 ((2 ≤ M) × (M ≤ 2 ^ 62)) ∷ condition 2 (a < M) ∷ condition k H ∷ []
-
--- the modulus or the step is refused, whatever the third condition is
-pub first_refused : (M a : ℕ) {n k : ℕ} {H : Type 0} → n ≡ refusal M a → (n ≡ 0 → ⊥) → RefusedBy (AskedWith M a k H) n
-unfolding refusal
-first_refused M a {n} {k} {H} e z = refused_before (conditions (checks M a)) (condition k H ∷ []) n ((gives (checks M a) (omega arith) n).0 (sym e, z))
+  target_first x h = first_refused 10 _ h
 
 -- both are accepted
 pub record Accepted (M a : ℕ) : Type 0 where
@@ -53,11 +80,7 @@ accepts_both {M} {a} e =
     let h = ((expansion.promised).answers M a).accepted.0 (sym ((expansion.promised).refusals M a) ∙ e) in
     record { low = h.0; most = h.1; small = h.2 }
 
-module _ {M a : ℕ} (h : Accepted M a) where
-  -- and the third condition does not hold
-  pub last_refused : {k : ℕ} {H : Type 0} → (H → ⊥) → RefusedBy (AskedWith M a k H) k
-  last_refused n = inr ((h.low, h.most), inr (h.small, inl (refl, n)))
-
-  -- or it holds
-  pub none_refused : {H : Type 0} → H → ((2 ≤ M) × (M ≤ 2 ^ 62)) × ((a < M) × (H × Unit {0}))
-  none_refused p = ((h.low, h.most), (h.small, (p, tt)))
+-- and what is asked after them is refused
+pub last_refused : {M a k : ℕ} {H : Type 0} → Accepted M a → (H → ⊥)
+    → RefusedBy (condition 1 ((2 ≤ M) × (M ≤ 2 ^ 62)) ∷ condition 2 (a < M) ∷ condition k H ∷ []) k
+last_refused h n = inr ((h.low, h.most), inr (h.small, inl (refl, n)))

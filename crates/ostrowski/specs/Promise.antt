@@ -1,18 +1,21 @@
--- What is promised of digits, residues and modular division (02: the way back), with the letters of documents 01 and 02: M the modulus, a the step, P the period; theta(i), q(i) and k(i+1)
--- the remainder, denominator and quotient of row i, m the last row; x an argument, d(i) its digits, t a target. `Promised`, at the end, says for which numbers each
--- record holds; proofs/Promises.antt proves it.
--- Assumes nothing: these are statements.
-use Rattle.std.specs.Prelude.{◌≡◌, List, [], ◌∷◌, ◌↔◌, ℕ, suc, ◌*◌, ◌%◌, ◌^◌, ◌≤◌, ◌<◌, length, get_or, replicate}
+-- What is promised of digits, residues and modular division (02: the way back), with the letters of
+-- documents 01 and 02: M the modulus, a the step, P the period; theta(i), q(i) and k(i+1) the
+-- remainder, denominator and quotient of row i, m the last row; x an argument, d(i) its digits, t a
+-- target. `Promised`, at the end, says for which numbers each record holds; proofs/Promises.antt
+-- proves it. Assumes nothing: these are statements.
+use Rattle.std.specs.Prelude.{◌≡◌, List, [], ◌∷◌, ◌↔◌, ℕ, suc, ◌*◌, ◌%◌, ◌^◌, ◌≤◌, ◌<◌, length, get_or, Result, Ok, Err, IsOkAnd, IsErrAnd}
 use Rattle.std.specs.Int.{◌∣◌}
 use Rattle.numbers.specs.Checklist.{Condition, condition, AllHold, RefusedBy}
+use Rattle.numbers.specs.Refusals.{number_of, number_in}
+use Rattle.numbers.specs.declared.refusals.Refusal.{Refusal}
+use Rattle.numbers.specs.declared.refusals.Refusal.TheVariants.{Target}
 use Rattle.numbers.specs.Divisors.{gcd}
 use Rattle.numbers.specs.Integers.{◌modulo◌}
 use Rattle.numbers.specs.Sums.{sum, alternating_sum}
 use Rattle.expansion.specs.Rows.{last, remainder_at, denominator_at, quotient_at, period}
 use Rattle.ostrowski.specs.Digits.{digits_of}
-use Rattle.ostrowski.specs.Answer.{digits_answer, residue_answer, divide_answer, refusal_of, found_of}
-use Rattle.ostrowski.specs.declared.DigitsAnswer.{DigitsAnswer}
-use Rattle.ostrowski.specs.declared.NumberAnswer.TheVariants.{Refused, Found}
+use Rattle.ostrowski.specs.Answer.{digits_answer, residue_answer, divide_answer}
+use Rattle.ostrowski.specs.declared.Numeral.{Numeral}
 
 -- ---- digits
 
@@ -59,36 +62,51 @@ pub record TargetCorrect (M a t : ℕ) : Type 0 where
 
 -- what is asked, in this order, with the number of each refusal
 abbrev pub ArgumentAsked : (M a x : ℕ) → List Condition
-ArgumentAsked M a x = condition 1 ((2 ≤ M) × (M ≤ 2 ^ 62)) ∷ condition 2 (a < M) ∷ condition 9 (x < period M a) ∷ []
+ArgumentAsked M a x =
+    condition 1 ((2 ≤ M) × (M ≤ 2 ^ 62)) ∷ condition 2 (a < M) ∷ condition 9 (x < period M a) ∷ []
 
 abbrev pub TargetAsked : (M a t : ℕ) → List Condition
-TargetAsked M a t = condition 1 ((2 ≤ M) × (M ≤ 2 ^ 62)) ∷ condition 2 (a < M) ∷ condition 10 ((t < M) × (gcd a M ∣ t)) ∷ []
+TargetAsked M a t =
+    condition 1 ((2 ≤ M) × (M ≤ 2 ^ 62)) ∷ condition 2 (a < M)
+    ∷ condition 10 ((t < M) × (gcd a M ∣ t)) ∷ []
 
--- an answer of digits has 88 places: a number exactly where its condition is the first that does not hold, and then everything else is 0; else m, the digits, and zeros
--- from place m on
-pub record DigitsAnswerCorrect (M a x : ℕ) (answered : DigitsAnswer) : Type 0 where
-  pub refused : (n : ℕ) → (answered.refusal ≡ suc n) ↔ RefusedBy (ArgumentAsked M a x) (suc n)
-  pub accepted : (answered.refusal ≡ 0) ↔ ((2 ≤ M) × (M ≤ 2 ^ 62) × (a < M) × (x < period M a))
-  pub refused_empty : 0 < answered.refusal → (answered.digits ≡ replicate 88 0) × (answered.count ≡ 0)
-  pub counted : answered.refusal ≡ 0 → answered.count ≡ last M a
-  pub places : length answered.digits ≡ 88
-  pub of_row : answered.refusal ≡ 0 → (i : ℕ) → i < last M a → get_or answered.digits i 0 ≡ get_or (digits_of M a x) i 0
-  pub after : answered.refusal ≡ 0 → (i : ℕ) → last M a ≤ i → get_or answered.digits i 0 ≡ 0
+-- what digits hands over has 88 places: m, the digits, and zeros from place m on
+pub record NumeralCorrect (M a x : ℕ) (numeral : Numeral) : Type 0 where
+  pub counted : numeral.count ≡ last M a
+  pub places : length numeral.digits ≡ 88
+  pub of_row : (i : ℕ) → i < last M a → get_or numeral.digits i 0 ≡ get_or (digits_of M a x) i 0
+  pub after : (i : ℕ) → last M a ≤ i → get_or numeral.digits i 0 ≡ 0
 
--- residue: refused exactly where a condition does not hold, by the number of the first one, and else a·x mod M
+-- an answer of digits: a refusal exactly where its condition is the first that does not hold, and no
+-- digits then; the digits exactly where every condition holds
+pub record DigitsAnswerCorrect (M a x : ℕ) (answered : Result Numeral Refusal) : Type 0 where
+  pub refused : (n : ℕ) → (number_in answered ≡ suc n) ↔ RefusedBy (ArgumentAsked M a x) (suc n)
+  pub accepted : (number_in answered ≡ 0) ↔ ((2 ≤ M) × (M ≤ 2 ^ 62) × (a < M) × (x < period M a))
+  pub refused_empty : 0 < number_in answered → IsErrAnd answered (λ r. number_of r ≡ number_in answered)
+  pub shown : number_in answered ≡ 0 → IsOkAnd answered (NumeralCorrect M a x)
+
+-- residue: refused exactly where a condition does not hold, by the first one, and else a·x mod M
 pub record ResidueAnswerCorrect (M a x : ℕ) : Type 0 where
-  pub refused : (n : ℕ) → (residue_answer M a x ≡ Refused n) ↔ RefusedBy (ArgumentAsked M a x) n
-  pub found : (y : ℕ) → (residue_answer M a x ≡ Found y) ↔ (AllHold (ArgumentAsked M a x) × (y ≡ a * x % M))
-  pub shown : AllHold (ArgumentAsked M a x) → (refusal_of (residue_answer M a x) ≡ 0) × (found_of (residue_answer M a x) ≡ a * x % M)
+  pub refused : (r : Refusal)
+      → (residue_answer M a x ≡ Err r) ↔ RefusedBy (ArgumentAsked M a x) (number_of r)
+  pub found : (y : ℕ)
+      → (residue_answer M a x ≡ Ok y) ↔ (AllHold (ArgumentAsked M a x) × (y ≡ a * x % M))
+  pub shown : AllHold (ArgumentAsked M a x)
+      → (number_in (residue_answer M a x) ≡ 0) × (residue_answer M a x ≡ Ok (a * x % M))
 
 -- divide: refused likewise, and else the x below P with a·x mod M = t
 pub record DivideAnswerCorrect (M a t : ℕ) : Type 0 where
-  pub refused : (n : ℕ) → (divide_answer M a t ≡ Refused n) ↔ RefusedBy (TargetAsked M a t) n
-  pub found : (x : ℕ) → (divide_answer M a t ≡ Found x) ↔ (AllHold (TargetAsked M a t) × ((x < period M a) × (a * x % M ≡ t)))
+  pub refused : (r : Refusal)
+      → (divide_answer M a t ≡ Err r) ↔ RefusedBy (TargetAsked M a t) (number_of r)
+  pub found : (x : ℕ)
+      → (divide_answer M a t ≡ Ok x)
+      ↔ (AllHold (TargetAsked M a t) × ((x < period M a) × (a * x % M ≡ t)))
   pub shown : AllHold (TargetAsked M a t)
-      → (refusal_of (divide_answer M a t) ≡ 0) × (found_of (divide_answer M a t) < period M a) × (a * found_of (divide_answer M a t) % M ≡ t)
+      → (number_in (divide_answer M a t) ≡ 0)
+      × IsOkAnd (divide_answer M a t) (λ x. (x < period M a) × (a * x % M ≡ t))
   -- with M and a accepted, refused exactly if there is none
-  pub refused_if_none : 2 ≤ M → M ≤ 2 ^ 62 → a < M → (divide_answer M a t ≡ Refused 10) ↔ (((x : ℕ) × (x < period M a) × (a * x % M ≡ t)) → ⊥)
+  pub refused_if_none : 2 ≤ M → M ≤ 2 ^ 62 → a < M
+      → (divide_answer M a t ≡ Err Target) ↔ (((x : ℕ) × (x < period M a) × (a * x % M ≡ t)) → ⊥)
 
 -- all of it: of every step below a modulus, and the answers for every three numbers
 pub record Promised : Type 0 where
@@ -99,6 +117,6 @@ pub record Promised : Type 0 where
   pub residue_answers : (M a x : ℕ) → ResidueAnswerCorrect M a x
   pub divide_answers : (M a t : ℕ) → DivideAnswerCorrect M a t
   -- residue and divide are inverse to each other
-  pub inverse : (M a x t : ℕ) → (residue_answer M a x ≡ Found t) ↔ (divide_answer M a t ≡ Found x)
+  pub inverse : (M a x t : ℕ) → (residue_answer M a x ≡ Ok t) ↔ (divide_answer M a t ≡ Ok x)
   -- the numbers of the two cases of an answer
-  pub numbers : (n : ℕ) → (refusal_of (Refused n) ≡ n) × (refusal_of (Found n) ≡ 0) × (found_of (Refused n) ≡ 0) × (found_of (Found n) ≡ n)
+  pub numbers : (r : Refusal) (n : ℕ) → (number_in {A = ℕ} (Err r) ≡ number_of r) × (number_in (Ok n) ≡ 0)

@@ -1,5 +1,5 @@
--- Where the range lies, case by case: between two counts in a list that ascends strictly, and else at the list's start.
--- Assumes nothing.
+-- Where the range lies, case by case: between two counts in a list that ascends strictly, and else
+-- at the list's start. Assumes nothing.
 use mathlib.Core.Path.{◌≡◌}
 use mathlib.Core.Bool.{true, false, ◌&&◌, cond, and-false}
 use mathlib.Core.List.{List}
@@ -19,8 +19,15 @@ pub record Between (lo hi : ℕ) (xs : List ℕ) : Type 0 where
   pub forward : below lo xs ≤ below hi xs
   pub enough : below hi xs ≤ length xs
 
-pub at_start : {lo hi : ℕ} {xs : List ℕ} → EmptyAtStart lo hi xs → record { start = 0; count = 0 } ≡ place_of lo hi xs
+pub at_start : {lo hi : ℕ} {xs : List ℕ} → EmptyAtStart lo hi xs
+    → record { start = 0; end = 0 } ≡ place_of lo hi xs
 at_start e = rw (e.start, e.count)
+
+pub between : {lo hi : ℕ} {xs : List ℕ} → Between lo hi xs
+    → record { start = below lo xs; end = below hi xs } ≡ place_of lo hi xs
+between {lo} {hi} {xs} b =
+    let e : below lo xs + (below hi xs - below lo xs) ≡ below hi xs = omega (arith, b.forward) in
+    rw (b.start, b.count, e)
 
 module _ (lo hi : ℕ) (xs : List ℕ) where
   pub ordered : ascending xs ≡ true → lo ≤ hi → Between lo hi xs

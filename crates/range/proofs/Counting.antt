@@ -1,13 +1,19 @@
--- How many entries of a list are below a bound: at most all of them, and no fewer for a larger bound. In a list that ascends strictly they come first, and can be
--- counted by halving. Assumes nothing.
+-- How many entries of a list are below a bound: at most all of them, and no fewer for a larger
+-- bound. In a list that ascends strictly they come first, so that where they end is how many they
+-- are. Assumes nothing.
 use mathlib.Core.Path.{◌≡◌}
 use mathlib.Core.List.{List, [], ◌∷◌}
 use mathlib.Core.Logic.{by_cases}
-use Prim.Native.Nat.{ℕ, zero, suc, ◌+◌, ◌≤◌, ◌<◌}
+use Prim.Native.Nat.{ℕ, zero, suc, ◌≤◌, ◌<◌}
 use native.Mathlib.Decide.{dec_lt}
-use native.Mathlib.Nat.{not-suc-le-zero}
+use native.Mathlib.Nat.{le_refl, not-suc-le-zero}
 use native.Mathlib.Omega.{arith}
+use lib.Dec.{ltb}
 use lib.ListN.{length, get_or}
+use Rattle.std.proofs.Common.{true, false}
+use Rattle.std.proofs.lemmas.Bool.{ltb-true, ltb-false}
+use Rattle.std.proofs.lemmas.List.Sorted.{IsPartitionedBy-ltb, IsNonDecreasingBy-from_default}
+use Rattle.std.specs.List.Sorted.{IsPartitionedBy, IsPartitionPoint}
 use borrow.Author.Tests.{lt-ltb, le-ltb}
 use Rattle.numbers.proofs.Lists.{Ascending}
 use Rattle.range.specs.Range.{below}
@@ -57,24 +63,24 @@ module _ (b : ℕ) where
   many_below (x ∷ xs) a (suc i) l h =
       omega (arith, below_counted b x xs (omega (arith, h, a 0 (suc i) (omega arith) l)), many_below xs (rest_ascends x xs a) i (omega arith) h)
 
--- ---- by halving
+-- ---- so where they end is how many they are
 
--- there are between low and high of them
-pub record Halving (b : ℕ) (xs : List ℕ) (low high : ℕ) : Type 0 where
-  pub least : low ≤ below b xs
-  pub most : below b xs ≤ high
-  pub within : high ≤ length xs
+module _ (b : ℕ) (xs : List ℕ) (a : Ascending xs) where
+  rises : (i j : ℕ) → i ≤ j → j < length xs → get_or xs i 0 ≤ get_or xs j 0
+  rises i j h l =
+      by_cases (dec_lt i j) (λ m. omega (arith, a i j m l))
+      (λ m. let e : i ≡ j = omega arith in rw e (le_refl (get_or xs j 0)))
 
-pub start : (b : ℕ) (xs : List ℕ) → Halving b xs 0 (length xs)
-start b xs = omega (arith, below_at_most_all b xs)
+  -- no entry below the bound comes after one that is not
+  pub parted : IsPartitionedBy (λ x. ltb x b) xs
+  parted = IsPartitionedBy-ltb (λ x. x) xs b (IsNonDecreasingBy-from_default (λ x. x) xs 0 rises)
 
-module _ {b : ℕ} {xs : List ℕ} {low high : ℕ} (h : Halving b xs low high) where
-  module _ (a : Ascending xs) (middle : ℕ) (l : middle < high) where
-    pub upper_half : get_or xs middle 0 < b → Halving b xs (middle + 1) high
-    upper_half k = omega (arith, h, many_below b xs a middle (omega (arith, h.within)) k)
-
-    pub lower_half : b ≤ get_or xs middle 0 → Halving b xs low middle
-    lower_half k = omega (arith, h, few_below b xs a middle (λ i. k))
-
-  pub done : high ≤ low → low ≡ below b xs
-  done l = omega (arith, h)
+  pub point_is_below : {n : ℕ} → n ≤ length xs
+      → IsPartitionPoint (λ x. ltb x b ≡ true) (λ x. ltb x b ≡ false) xs n → n ≡ below b xs
+  point_is_below {n} l p =
+      let most = few_below b xs a n (λ k. ltb-false _ _ (p.1 n 0 (omega arith) k)) in
+      by_cases (dec_lt (below b xs) n)
+      (λ h.
+      let k : get_or xs (below b xs) 0 < b = ltb-true _ _ (p.0 (below b xs) 0 (omega arith) h) in
+      omega (arith, many_below b xs a (below b xs) (omega arith) k))
+      (λ h. omega arith)

@@ -1,4 +1,5 @@
--- What is promised of the range of a list between lo and hi. proofs/Promises.antt proves `Promised`. Assumes nothing: these are statements.
+-- What is promised of the range of a list between lo and hi. proofs/Promises.antt proves `Promised`.
+-- Assumes nothing: these are statements.
 use Rattle.std.specs.Prelude.{◌≡◌, true, ◌↔◌, ℕ, ◌+◌, ◌*◌, ◌≤◌, ◌<◌, length, get_or}
 use mathlib.Core.List.{List, Memᴰ}
 use Rattle.std.specs.Borrow.{Bor}
@@ -14,9 +15,11 @@ pub record RangeCorrect (lo hi : ℕ) (xs : List ℕ) : Type 0 where
   -- it has the entries of the list between the bounds, and no others
   pub exactly : (x : ℕ) → Memᴰ x (range_of lo hi xs) ↔ (Memᴰ x xs × (lo ≤ x) × (x < hi))
 
--- what is handed back of a list: where it lies there, and the entries that stand there, in their order
+-- what is handed back of a list: where it lies there, and the entries that stand there, in their
+-- order
 pub record HandedBack (lo hi : ℕ) (xs : List ℕ) : Type 0 where
-  pub placed : ((place_of lo hi xs).start ≡ start_of lo hi xs) × ((place_of lo hi xs).count ≡ count_of lo hi xs)
+  pub placed : ((place_of lo hi xs).start ≡ start_of lo hi xs)
+      × ((place_of lo hi xs).end ≡ start_of lo hi xs + count_of lo hi xs)
   pub many : length (range_of lo hi xs) ≡ count_of lo hi xs
   pub in_order : (i : ℕ) → i < count_of lo hi xs → get_or (range_of lo hi xs) i 0 ≡ get_or xs (start_of lo hi xs + i) 0
 

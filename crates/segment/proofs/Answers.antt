@@ -21,7 +21,11 @@ use Rattle.segment.specs.declared.state.State.{State}
 use Rattle.segment.specs.declared.Verdict.TheVariants.{Possible}
 use Rattle.segment.proofs.Minimum.{least_is}
 use Rattle.segment.proofs.Invariant.{Ended}
+use Rattle.segment.specs.Walk.{after}
+use Rattle.segment.specs.Sketch.{sketch_walk}
+use Rattle.segment.specs.declared.sketch.Sketch.{Sketch}
 use Rattle.segment.proofs.Stepping.{ended}
+use Rattle.segment.proofs.Sketches.{sketch_distance}
 
 -- ---- refusals
 
@@ -124,6 +128,8 @@ module _ (M a b N w : ℕ) {t : State} (c : Accepted (asked M a b N w)) where
   fine_answered e = let end = ended_with fine M a b N w c e in rw (fine_shows M a b N w c, end.label, argument_is end, distance_is end)
 
 -- the verdict by the distance alone
-pub verdict_answered : (M a b N w : ℕ) {d : ℕ} → Accepted (asked M a b N w) → d ≡ (state_after regular (asked M a b N 1) 29).distance
-    → verdict_at d w ≡ regular_verdict M a b N w
-verdict_answered M a b N w c e = rw (verdict_shows M a b N w c, e, distance_is (ended_with regular M a b N w c refl))
+pub verdict_answered : (M a b N w : ℕ) {k : Sketch} → Accepted (asked M a b N w) → k ≡ after sketch_walk (asked M a b N 1) 29
+    → verdict_at k.distance w ≡ regular_verdict M a b N w
+verdict_answered M a b N w c e =
+    let with_1 : Accepted (asked M a b N 1) = omega arith in
+    rw (verdict_shows M a b N w c, e, sketch_distance with_1, distance_is (ended_with regular M a b N w c refl))

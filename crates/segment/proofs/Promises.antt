@@ -12,7 +12,6 @@ use Rattle.geometry.proofs.Promises as geometry
 use Rattle.segment.specs.Accepted.{asked, checks, refusal, Accepted}
 use Rattle.segment.specs.Search.{reached_in, argument, distance, verdict}
 use Rattle.segment.specs.Answer.{regular_shown, fine_shown, regular_answer, fine_answer, regular_verdict_with, regular_verdict}
-use Rattle.segment.specs.State.{next}
 use Rattle.segment.specs.Promise.{RefusedFor, RegularAnswerCorrect, FineAnswerCorrect, RegularClears, FineClears, Cleared, SmallerCleared, FineReachesNoMore, VerdictsCorrect, WithoutWindow, Promised}
 use Rattle.segment.specs.declared.Verdict.{Verdict}
 use Rattle.segment.specs.declared.Verdict.TheVariants.{Clear, Possible}
@@ -147,7 +146,7 @@ promised =
       regular_refused = regular_refuses;
       fine_refused = fine_refuses;
       steps = λ k s c. steps_correct k c;
-      step_of = λ odd N t. unfold next in (refl, refl);
+      step_of = λ odd N t. (refl, refl);
       smaller = smaller;
       no_more = no_more;
       verdicts = verdicts;

@@ -5,17 +5,18 @@
 
 ghost use Rattle.std.specs.Prelude.{◌≡◌};
 ghost use Rattle.numbers.specs.Refusals.{tested};
-ghost use Rattle.expansion.specs.Reached.Search.{regular, fine};
-ghost use Rattle.segment.specs.Accepted.{asked, refusal, Accepted};
+ghost use Rattle.segment.specs.Accepted.{asked, refusal};
 ghost use Rattle.segment.specs.Search.{verdict_at};
 ghost use Rattle.segment.specs.Answer.{regular_answer, fine_answer, regular_verdict};
-ghost use Rattle.segment.specs.State.{state_after};
 
 mod sketch;
 mod state;
+mod walk;
 
 use numbers::Refusal;
-use state::{State, fine_even, fine_odd, first, regular_even, regular_odd};
+use sketch::DistanceWalk;
+use state::{FineWalk, RegularWalk};
+use walk::end;
 
 // A segment, with the words of a job.
 #[derive(Clone, Copy, Debug, PartialEq, Eq)]
@@ -58,9 +59,6 @@ pub struct Fine {
 
 const LARGEST_COUNT: u64 = 1048576;
 
-// How many steps a search may take, each of which goes through a row. Every accepted segment is done by then.
-const BUDGET: u32 = 29;
-
 // The regular search: from each quotient to the next, to the first regular configuration that has at
 // least as many points as the count, or to that of the period where the count exceeds it. Refused as
 // `refuse` says.
@@ -68,7 +66,7 @@ pub fn regular_search(segment: Segment) -> Result<Regular, Refusal>
     ensures { result ≡ regular_answer segment.modulus segment.step segment.start segment.count segment.window }
 {
     refuse(segment)?;
-    let end = regular_end(segment.modulus, segment.step, segment.start, segment.count);
+    let end = end::<RegularWalk>(segment.modulus, segment.step, segment.start, segment.count);
     Ok(Regular {
         count: end.longs + end.shorts,
         quotients: end.index,
@@ -84,7 +82,7 @@ pub fn fine_search(segment: Segment) -> Result<Fine, Refusal>
     ensures { result ≡ fine_answer segment.modulus segment.step segment.start segment.count segment.window }
 {
     refuse(segment)?;
-    let end = fine_end(segment.modulus, segment.step, segment.start, segment.count);
+    let end = end::<FineWalk>(segment.modulus, segment.step, segment.start, segment.count);
     Ok(Fine {
         count: end.longs + end.shorts,
         index: end.index,
@@ -102,8 +100,8 @@ pub fn regular_verdict(segment: Segment) -> Verdict
     let Ok(()) = refuse(segment) else {
         return Verdict::Possible;
     };
-    let distance = regular_distance(segment.modulus, segment.step, segment.start, segment.count);
-    judge(distance, segment.window)
+    let sketch = end::<DistanceWalk>(segment.modulus, segment.step, segment.start, segment.count);
+    judge(sketch.distance, segment.window)
 }
 
 // The first condition that does not hold: those of the expansion of the modulus and the step, then a
@@ -131,81 +129,12 @@ pub fn refuse(segment: Segment) -> Result<(), Refusal>
     Ok(())
 }
 
-// The state in which the regular search ends: an even and an odd row take turns, and the index tells the steps taken. The window plays no part;
-// the contract has the least that is accepted.
-fn regular_end(modulus: u64, step: u64, start: u64, count: u64) -> State
-    requires { Accepted (asked modulus step start count 1) }
-    ensures { result ≡ state_after regular (asked modulus step start count 1) 29 }
-{
-    let mut state = first(modulus, step, start, count);
-    if state.done {
-        return state;
-    }
-    while state.index < BUDGET {
-        state = regular_even(state, count);
-        if state.done {
-            return state;
-        }
-        state = regular_odd(state, count);
-        if state.done {
-            return state;
-        }
-    }
-    // No accepted segment comes here: all are done within the budget.
-    state
-}
-
-// The same for the fine search.
-fn fine_end(modulus: u64, step: u64, start: u64, count: u64) -> State
-    requires { Accepted (asked modulus step start count 1) }
-    ensures { result ≡ state_after fine (asked modulus step start count 1) 29 }
-{
-    let mut state = first(modulus, step, start, count);
-    if state.done {
-        return state;
-    }
-    while state.index < BUDGET {
-        state = fine_even(state, count);
-        if state.done {
-            return state;
-        }
-        state = fine_odd(state, count);
-        if state.done {
-            return state;
-        }
-    }
-    // No accepted segment comes here: all are done within the budget.
-    state
-}
-
-// The distance of the state in which the regular search ends, by the rows of `sketch`.
-fn regular_distance(modulus: u64, step: u64, start: u64, count: u64) -> u64
-    requires { Accepted (asked modulus step start count 1) }
-    ensures { result ≡ (state_after regular (asked modulus step start count 1) 29).distance }
-{
-    let mut sketch = sketch::first(modulus, step, start, count);
-    if sketch.done {
-        return sketch.distance;
-    }
-    while sketch.index < BUDGET {
-        sketch = sketch::even_row(sketch, count);
-        if sketch.done {
-            return sketch.distance;
-        }
-        sketch = sketch::odd_row(sketch, count);
-        if sketch.done {
-            return sketch.distance;
-        }
-    }
-    // No accepted segment comes here: all are done within the budget.
-    sketch.distance
-}
-
 fn judge(distance: u64, window: u64) -> Verdict
     ensures { result ≡ verdict_at distance window }
 {
     if window <= distance {
-        return Verdict::Clear;
+        Verdict::Clear
+    } else {
+        Verdict::Possible
     }
-    Verdict::Possible
 }

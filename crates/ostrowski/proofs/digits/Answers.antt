@@ -1,35 +1,30 @@
 -- `ostrowski::digits` meets its contract: a refusal, or the digits of an argument below the period.
 -- Assumes nothing.
-use mathlib.Core.Path.{refl, sym, ◌∙◌}
-use native.Mathlib.Omega.{arith}
-use Rattle.ostrowski.proofs.Taking.{tabled, few_rows, period_read, taking_first, taking_next, denominator_positive, none_written, digit_written, digits_written}
-use Rattle.ostrowski.proofs.Refusals.{first_refused, last_refused, none_refused}
-use Rattle.ostrowski.proofs.Answers.{digits_refused, digits_accepted}
+use Rattle.std.proofs.Common.{Ok, refl, ap, ◌∙◌, rules, arith}
+use Rattle.expansion.specs.Answer.{answer}
+use Rattle.ostrowski.specs.Answer.{digits_answer}
+use Rattle.ostrowski.proofs.Refusals.{argument_first}
+use Rattle.ostrowski.proofs.Taking.{tabled, few_rows, argument_refused, argument_accepted, taking_first, taking_next, denominator_positive, none_written, digit_written, digits_written}
 use Rattle.ostrowski.proofs.digits.Goals as goal
 
-pub returns-then-number-ne0 : goal.returns-then-number-ne0
-returns-then-number-ne0 c =
-    c.refused.ensures ∙ digits_refused _ _ _ (first_refused _ _ c.refuse-number.ensures c.if-number-ne0.true)
+pub returns-in_err-denominators : goal.returns-in_err-denominators
+unfolding answer digits_answer
+returns-in_err-denominators c = search (rules, argument_first)
 
 pub offset_bounds-denominators-last : goal.offset_bounds-denominators-last
-offset_bounds-denominators-last c =
-    let h = few_rows (tabled (sym c.refuse-number.ensures ∙ c.if-number-ne0.false) c.expand-answer.ensures) in omega arith
+offset_bounds-denominators-last c = let h = few_rows (tabled c.in_ok-denominators.ensures) in omega arith
 
 pub bounds-denominators-last : goal.bounds-denominators-last
-bounds-denominators-last c =
-    let h = few_rows (tabled (sym c.refuse-number.ensures ∙ c.if-number-ne0.false) c.expand-answer.ensures) in omega arith
+bounds-denominators-last c = let h = few_rows (tabled c.in_ok-denominators.ensures) in omega arith
 
 pub returns-then-denominators-last : goal.returns-then-denominators-last
-returns-then-denominators-last c =
-    let t = tabled (sym c.refuse-number.ensures ∙ c.if-number-ne0.false) c.expand-answer.ensures in
-    c.refused-then-denominators-last.ensures
-    ∙ digits_refused _ _ _ (last_refused t.accepted (λ h. omega (arith, h, c.if-denominators-last.true, period_read t)))
+unfolding digits_answer
+returns-then-denominators-last c = argument_refused (tabled c.in_ok-denominators.ensures) _ c.if-denominators-last.true
 
 pub loop-row-init : goal.loop-row-init
 loop-row-init c =
-    let t = tabled (sym c.refuse-number.ensures ∙ c.if-number-ne0.false) c.expand-answer.ensures in
-    let k = taking_first t (omega (arith, c.if-denominators-last.false, period_read t)) in
-    record { taking = k; written = none_written k refl }
+    let t = taking_first (tabled c.in_ok-denominators.ensures) c.if-denominators-last.false in
+    record { taking = t; written = none_written t refl }
 
 pub nonzero_div-digits : goal.nonzero_div-digits
 nonzero_div-digits c = denominator_positive c.loop-row.invariant.taking c.loop-row-test.true
@@ -46,7 +41,7 @@ loop-row-preserved c =
     }
 
 pub returns : goal.returns
+unfolding digits_answer
 returns c =
     let i = c.loop-row.invariant in
-    let t = i.taking in
-    digits_written t c.loop-row-test.false i.written ∙ digits_accepted _ _ _ (none_refused t.table.accepted t.within)
+    ap Ok (digits_written i.taking (omega arith) i.written) ∙ argument_accepted i.taking _

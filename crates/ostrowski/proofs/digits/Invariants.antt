@@ -1,6 +1,6 @@
 -- `ostrowski::digits` meets its contract.
 -- The loop's invariant: what is left of the argument is the sum of its digits below `row`, and the
--- array has the digits from `row` on. The measure is the row. Assumes nothing.
+-- array has the digits from `row` on. Assumes nothing.
 use Rattle.numbers.proofs.Buffers.{AgreesFrom}
 use Rattle.ostrowski.proofs.Taking.{Taking, goal as digits_goal}
 use Rattle.ostrowski.proofs.digits.Given as goal
@@ -10,6 +10,3 @@ invariant-loop-row l = record {
   taking : Taking l.modulus l.step l.argument l.denominators l.last l.rest l.row;
   written : AgreesFrom (digits_goal l.modulus l.step l.argument) l.digits l.row;
 }
-
-abbrev pub decreases-loop-row : goal.decreases-loop-row
-decreases-loop-row l = l.row

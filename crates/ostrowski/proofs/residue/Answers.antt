@@ -1,43 +1,36 @@
 -- `ostrowski::residue` meets its contract: a refusal, or what the rows come to. Assumes nothing.
-use mathlib.Core.Path.{sym, ◌∙◌}
-use native.Mathlib.Omega.{arith}
-use Rattle.ostrowski.proofs.Taking.{tabled, remainders_tabled, few_rows, period_read, denominator_positive, reducing_first, reducing_next, residue_below, term_fits, residue_made}
-use Rattle.ostrowski.proofs.Refusals.{first_refused, last_refused, none_refused}
-use Rattle.ostrowski.proofs.Answers.{residue_answer_correct}
+use Rattle.std.proofs.Common.{Ok, ap, ◌∙◌, rules, arith}
+use Rattle.expansion.specs.Answer.{answer}
+use Rattle.ostrowski.specs.Answer.{residue_answer}
+use Rattle.ostrowski.proofs.Refusals.{argument_first}
+use Rattle.ostrowski.proofs.Taking.{tabled, remainders_tabled, few_rows, argument_refused, argument_accepted, taking_first, denominator_positive, reducing_first, reducing_next, residue_below, term_fits, residue_made}
 use Rattle.ostrowski.proofs.residue.Goals as goal
 
-pub returns-then-number-ne0 : goal.returns-then-number-ne0
-returns-then-number-ne0 c =
-    sym (((residue_answer_correct _ _ _).refused _).1 (first_refused _ _ c.refuse-number.ensures c.if-number-ne0.true))
+pub returns-in_err-remainders : goal.returns-in_err-remainders
+unfolding answer residue_answer
+returns-in_err-remainders c = search (rules, argument_first)
 
 pub offset_bounds-denominators-last : goal.offset_bounds-denominators-last
-offset_bounds-denominators-last c =
-    let h = few_rows (tabled (sym c.refuse-number.ensures ∙ c.if-number-ne0.false) c.expand-answer.ensures) in omega arith
+offset_bounds-denominators-last c = let h = few_rows (tabled c.in_ok-remainders.ensures) in omega arith
 
 pub bounds-denominators-last : goal.bounds-denominators-last
-bounds-denominators-last c =
-    let h = few_rows (tabled (sym c.refuse-number.ensures ∙ c.if-number-ne0.false) c.expand-answer.ensures) in omega arith
+bounds-denominators-last c = let h = few_rows (tabled c.in_ok-remainders.ensures) in omega arith
 
 pub returns-then-denominators-last : goal.returns-then-denominators-last
-returns-then-denominators-last c =
-    let t = tabled (sym c.refuse-number.ensures ∙ c.if-number-ne0.false) c.expand-answer.ensures in
-    sym (((residue_answer_correct _ _ _).refused 9).1
-    (last_refused t.accepted (λ h. omega (arith, h, c.if-denominators-last.true, period_read t))))
+unfolding residue_answer
+returns-then-denominators-last c = argument_refused (tabled c.in_ok-remainders.ensures) _ c.if-denominators-last.true
 
 pub loop-row-init : goal.loop-row-init
 loop-row-init c =
-    let e = sym c.refuse-number.ensures ∙ c.if-number-ne0.false in
-    let t = tabled e c.expand-answer.ensures in
-    reducing_first t (remainders_tabled e c.expand-answer.ensures) (omega (arith, c.if-denominators-last.false, period_read t))
+    let f = c.in_ok-remainders.ensures in
+    reducing_first (taking_first (tabled f) c.if-denominators-last.false) (remainders_tabled f)
 
 pub nonzero_div-term : goal.nonzero_div-term
 nonzero_div-term c = denominator_positive c.loop-row.invariant.taking c.loop-row-test.true
 
 pub overflow_mul-term : goal.overflow_mul-term
 overflow_mul-term c =
-    let i = c.loop-row.invariant in
-    let h = term_fits i c.loop-row-test.true in
-    let l = i.taking.table.accepted.most in omega arith
+    let h = term_fits c.loop-row.invariant c.loop-row-test.true in omega arith
 
 pub nonzero_rem-rest : goal.nonzero_rem-rest
 nonzero_rem-rest c = denominator_positive c.loop-row.invariant.taking c.loop-row-test.true
@@ -50,8 +43,6 @@ pub loop-row-preserved : goal.loop-row-preserved
 loop-row-preserved c = rw c.subtract-residue.ensures (reducing_next c.loop-row.invariant c.loop-row-test.true)
 
 pub returns : goal.returns
+unfolding residue_answer
 returns c =
-    let i = c.loop-row.invariant in
-    let t = i.taking in
-    sym (((residue_answer_correct _ _ _).found _).1
-    (none_refused t.table.accepted t.within, residue_made i c.loop-row-test.false))
+    let i = c.loop-row.invariant in ap Ok (residue_made i (omega arith)) ∙ argument_accepted i.taking _

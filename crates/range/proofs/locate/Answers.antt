@@ -1,22 +1,19 @@
 -- `range::locate` meets its contract: each return is a case of the definition. Assumes nothing.
 use Rattle.std.proofs.Common.{sym, ◌∙◌, arith}
-use Rattle.range.proofs.Cases.{at_start, ordered, unordered, crossed}
+use Rattle.range.proofs.Cases.{at_start, between, ordered, unordered, crossed}
 use Rattle.range.proofs.locate.Goals as goal
+use Rattle.range.proofs.locate.Goals.{then-hi-lo-via-then-hi-lo, then-hi-lo-via-else-hi-lo+then-not-is_ascending}
 
 pub returns-then-hi-lo : goal.returns-then-hi-lo
-returns-then-hi-lo c = at_start (crossed _ _ _ (omega (arith, c.if-hi-lo.true)))
-
-pub overflow_sub-result : goal.overflow_sub-result
-overflow_sub-result c =
-    let a = c.args in
-    let b = ordered a.lo a.hi a.list.now (sym c.is_ascending.ensures ∙ c.if-is_ascending.true) c.if-hi-lo.false in
-    omega (arith, b.forward)
-
-pub returns-then-is_ascending : goal.returns-then-is_ascending
-returns-then-is_ascending c =
-    let a = c.args in
-    let b = ordered a.lo a.hi a.list.now (sym c.is_ascending.ensures ∙ c.if-is_ascending.true) c.if-hi-lo.false in
-    rw (b.start, b.count, c.count_below-start.ensures, c.count_below-end.ensures)
+returns-then-hi-lo c =
+    elim c.then-hi-lo.branch [
+      | then-hi-lo-via-then-hi-lo w ↦ at_start (crossed _ _ _ (omega (arith, w.if-hi-lo.true)))
+      | then-hi-lo-via-else-hi-lo+then-not-is_ascending w ↦
+          at_start (unordered _ _ _ (sym w.is_ascending.ensures ∙ w.if-not-is_ascending.true))
+    ]
 
 pub returns : goal.returns
-returns c = at_start (unordered _ _ _ (sym c.is_ascending.ensures ∙ c.if-is_ascending.false))
+returns c =
+    let up = sym c.is_ascending.ensures ∙ c.if-not-is_ascending.false in
+    rw (c.count_below-start.ensures, c.count_below-end.ensures)
+    (between (ordered _ _ _ up c.if-hi-lo.false))
