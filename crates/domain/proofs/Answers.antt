@@ -38,6 +38,8 @@ use Rattle.domain.specs.Phases.{marks_by, report}
 use Rattle.domain.specs.Answer.{room, origin_checks, own_checks, domain_checks, domain_number, found, answer_with, domain_answer, marks_after, list_after, values_after, too_few, marks_with, list_with, values_with, hard_residues, scan_checks, scan_number}
 use Rattle.domain.specs.declared.Domain.{Domain}
 use Rattle.domain.specs.declared.Searched.{Searched}
+use Rattle.domain.specs.declared.marks.Mark.{Mark}
+use Rattle.domain.specs.declared.marks.Mark.TheVariants as mark
 use Rattle.domain.specs.declared.phases.Report.{Report}
 use Rattle.domain.proofs.Parts.{none_listed, otherwise}
 
@@ -114,19 +116,19 @@ scan_accepts s m n =
 -- ---- what a number makes of an answer and of the buffers
 
 -- the answer, the marks, the list and the values
-abbrev Leaves : (number origin raise : ℕ) → Parabola → (old_marks old old_values : List ℕ) → (answer : Result Searched Refusal)
-    → (new_marks new new_values : List ℕ) → Type 0
+abbrev Leaves : (number origin raise : ℕ) → Parabola → (old_marks : List Mark) → (old old_values : List ℕ) → (answer : Result Searched Refusal)
+    → (new_marks : List Mark) → (new new_values : List ℕ) → Type 0
 Leaves n origin raise p old_marks old old_values answer new_marks new new_values =
     (answer ≡ answer_with n p)
     × ((new_marks ≡ marks_with n p old_marks) × ((new ≡ list_with n origin p old) × (new_values ≡ values_with n raise p old_values)))
 
 -- a number that refuses leaves a buffer as it was
-kept : {A : Type 0} (n : ℕ) (a : A) {r : Refusal} → outcome n a ≡ Err r → (new old : List ℕ) → old ≡ unless_refused n new old
+kept : {A : Type 0} (n : ℕ) (a : A) {r : Refusal} → outcome n a ≡ Err r → {B : Type 0} (new old : B) → old ≡ unless_refused n new old
 kept n a e new old = sym (refused_old n new old (λ z. not_refused a (rw z at e)))
 
 -- ---- phases 2 and 3
 
-module _ (p : Parabola) (origin raise : ℕ) (old_marks old old_values : List ℕ) where
+module _ (p : Parabola) (origin raise : ℕ) (old_marks : List Mark) (old old_values : List ℕ) where
   pub parts_refused : min (length old) (length old_values) < length (hard_list p)
       → Leaves (too_few p (length old) (length old_values)) origin raise p old_marks old old_values (Err refusals.Room) old_marks old old_values
   unfolding too_few
@@ -163,13 +165,14 @@ values_lowered d a =
     ∙ raised_lowered d.modulus (d.window - 1) (value_at (parabola_of d) x) (omega (arith, a.window_low, a.window_high)) (v.in_range x)) j)
 
 -- what the contract says
-abbrev Answered : Domain → (old_marks old old_values : List ℕ) → (answer : Result Searched Refusal) → (new_marks new new_values : List ℕ) → Type 0
+abbrev Answered : Domain → (old_marks : List Mark) → (old old_values : List ℕ) → (answer : Result Searched Refusal) → (new_marks : List Mark)
+    → (new new_values : List ℕ) → Type 0
 Answered d old_marks old old_values answer new_marks new new_values =
     (answer ≡ domain_answer d (length old) (length old_values))
     × ((new_marks ≡ marks_after d (length old) (length old_values) old_marks)
     × ((new ≡ list_after d (length old_values) old) × (new_values ≡ values_after d (length old) old_values)))
 
-module _ (d : Domain) (old_marks old old_values : List ℕ) where
+module _ (d : Domain) (old_marks : List Mark) (old old_values : List ℕ) where
   -- a refusal before anything is searched
   own_refused : {r : Refusal} → tested (first_failing (own_checks d)) ≡ Err r → Answered d old_marks old old_values (Err r) old_marks old old_values
   unfolding domain_answer marks_after list_after values_after domain_number
@@ -213,7 +216,7 @@ module _ (d : Domain) (old_marks old old_values : List ℕ) where
 
     -- phase 1 clears it
     pub domain_cleared : {p : Parabola} → p ≡ centred_of d → verdict regular (covering p) ≡ Clear
-        → Answered d old_marks old old_values (Ok (record { first = Clear; listed = 0 })) (replicate 8 0) old old_values
+        → Answered d old_marks old old_values (Ok (record { first = Clear; listed = 0 })) (replicate 8 mark.Unseen) old old_values
     unfolding domain_answer marks_after list_after values_after too_few outcome unless_refused marks_by overwrite_front
     domain_cleared e c =
         let v : verdict regular (covering_of d) ≡ Clear = ap (λ (p : Parabola). verdict regular (covering p)) (sym e) ∙ c in
@@ -232,7 +235,7 @@ module _ (d : Domain) (old_marks old old_values : List ℕ) where
 
     -- phases 2 and 3 search it
     pub domain_searched : {p : Parabola} {raise origin : ℕ} → p ≡ centred_of d → raise ≡ d.window - 1 → origin ≡ d.origin
-        → {answer : Result Searched Refusal} {new_marks new new_values : List ℕ}
+        → {answer : Result Searched Refusal} {new_marks : List Mark} {new new_values : List ℕ}
         → Leaves (too_few p (length old) (length old_values)) origin raise p old_marks old old_values answer new_marks new new_values
         → Answered d old_marks old old_values answer new_marks new new_values
     unfolding domain_answer marks_after list_after values_after

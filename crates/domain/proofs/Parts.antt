@@ -5,12 +5,12 @@ use mathlib.Core.List.{List, [], map, map-map}
 use mathlib.Core.Logic.{by_cases}
 use Prim.Native.Nat.{ℕ, zero, suc, ◌+◌, ◌-◌, ◌≤◌, ◌<◌, min}
 use native.Mathlib.Nat.{add_assoc}
-use native.Mathlib.Decide.{dec_le, dec_lt}
+use native.Mathlib.Decide.{dec_le, dec_lt, ℕ_discrete}
 use native.Mathlib.Omega.{arith}
 use native.Mathlib.Numerals.{add-one}
 use lib.Dec.{ltb}
-use lib.ListN.{length, set, replicate, length-map, length-append}
-use lib.Seq.{sets}
+use lib.ListN.{length, get_or, set, replicate, length-map, length-append, length-set}
+use lib.Seq.{sets, get_or-set_same, get_or-set_other, ext_get_or}
 use mir.Val.{bool_byte}
 use borrow.Author.Tests.{lt-ltb, le-ltb}
 use Rattle.numbers.specs.Lists.{tabulate, joined, overwrite_front}
@@ -32,6 +32,8 @@ use Rattle.arc.specs.Arc.{parabola, point}
 use Rattle.arc.specs.declared.Arc.{Arc}
 use Rattle.arc.specs.declared.Point.{Point}
 use Rattle.arc.proofs.Promises as arc
+use Rattle.domain.specs.declared.marks.Mark.{Mark}
+use Rattle.domain.specs.declared.marks.Mark.TheVariants as mark
 use Rattle.domain.specs.declared.phases.PartReport.{PartReport}
 
 -- ---- where a part begins, and how long it is
@@ -78,8 +80,8 @@ pub otherwise : (v : Verdict) → (v ≡ Clear → ⊥) → v ≡ Possible
 otherwise Clear h = absurd (h refl)
 otherwise Possible h = refl
 
--- its mark is 3 where it has no argument, and else by its verdict
-pub mark_empty : {n : ℕ} (v : Verdict) → n ≡ 0 → mark_with n v ≡ 3
+-- it is marked as empty where it has no argument, and else by its verdict
+pub mark_empty : {n : ℕ} (v : Verdict) → n ≡ 0 → mark_with n v ≡ mark.Empty
 unfolding mark_with
 mark_empty v e = rw e refl
 
@@ -89,7 +91,7 @@ mark_some zero v h = absurd (omega arith)
 mark_some (suc n) v h = refl
 
 -- what is found in a part without arguments
-pub empty_part : (p : Parabola) → InRange p → (i : ℕ) → part_count p.count i ≡ 0 → record { mark = 3; hard = 0 } ≡ part_report (part p i)
+pub empty_part : (p : Parabola) → InRange p → (i : ℕ) → part_count p.count i ≡ 0 → record { mark = mark.Empty; hard = 0 } ≡ part_report (part p i)
 unfolding part_report continued
 empty_part p range i e = rw (mark_empty (verdict fine (covering (part p i))) e, (promised.parts p range).nothing_listed i e)
 
@@ -97,11 +99,11 @@ module _ {p : Parabola} (range : InRange p) where
   mark_is : {v : Verdict} → verdict fine (covering p) ≡ v → mark_with p.count (verdict fine (covering p)) ≡ mark_of v
   mark_is e = mark_some _ _ range.count_low ∙ ap mark_of e
 
-  pub clear_part : verdict fine (covering p) ≡ Clear → record { mark = 1; hard = 0 } ≡ part_report p
+  pub clear_part : verdict fine (covering p) ≡ Clear → record { mark = mark.Clear; hard = 0 } ≡ part_report p
   unfolding part_report mark_of
   clear_part e = rw (mark_is e, none_listed fine range e)
 
-  pub possible_part : {n : ℕ} → verdict fine (covering p) ≡ Possible → n ≡ length (hard_list p) → record { mark = 2; hard = n } ≡ part_report p
+  pub possible_part : {n : ℕ} → verdict fine (covering p) ≡ Possible → n ≡ length (hard_list p) → record { mark = mark.Possible; hard = n } ≡ part_report p
   unfolding part_report mark_of
   possible_part e h = rw (mark_is e, h)
 
@@ -134,17 +136,40 @@ module _ (p : Parabola) (i : ℕ) where
 -- ---- examining
 
 -- before the part i: the marks of those before it and how many hard arguments each has are written, and how many they have together is known
-pub record Examining (p : Parabola) (marks counts : List ℕ) (total i : ℕ) : Type 0 where
+pub record Examining (p : Parabola) (marks : List Mark) (counts : List ℕ) (total i : ℕ) : Type 0 where
   pub within : i ≤ 8
-  pub marking : Writing (part_marks p) (replicate 8 0) 0 (tabulate (part_mark p) (8 - i) i) marks i
+  pub eight : length marks ≡ 8
+  pub marking : (k : ℕ) → k < i → get_or marks k mark.Unseen ≡ part_mark p k
   pub counting : Writing (hard_counts p) (replicate 8 0) 0 (tabulate (hard_count p) (8 - i) i) counts i
   pub to_come : total + length (pieces_from p i) ≡ length (hard_list p)
 
-pub examine_first : {p : Parabola} → InRange p → Examining p (replicate 8 0) (replicate 8 0) 0 0
+pub examine_first : {p : Parabola} → InRange p → Examining p (replicate 8 mark.Unseen) (replicate 8 0) 0 0
 examine_first {p} d =
-    record { within = omega arith; marking = begin _ _ 0; counting = begin _ _ 0; to_come = omega (arith, ap length (promised.parts p d).lists) }
+    record {
+      within = omega arith;
+      eight = refl;
+      marking = λ k h. absurd (omega arith);
+      counting = begin _ _ 0;
+      to_come = omega (arith, ap length (promised.parts p d).lists);
+    }
 
-module _ {p : Parabola} {marks counts : List ℕ} {total i : ℕ} (e : Examining p marks counts total i) where
+-- eight marks that are those of the parts
+all_marks : (p : Parabola) {marks : List Mark} → length marks ≡ 8 → ((k : ℕ) → k < 8 → get_or marks k mark.Unseen ≡ part_mark p k) → marks ≡ part_marks p
+unfolding tabulate
+all_marks p {marks} long each = ext_get_or mark.Unseen marks (part_marks p) long (λ k h. each k (omega arith) ∙ by k (omega arith))
+  where
+    by : (k : ℕ) → k < 8 → part_mark p k ≡ get_or (part_marks p) k mark.Unseen
+    by zero h = refl
+    by (suc zero) h = refl
+    by (suc (suc zero)) h = refl
+    by (suc (suc (suc zero))) h = refl
+    by (suc (suc (suc (suc zero)))) h = refl
+    by (suc (suc (suc (suc (suc zero))))) h = refl
+    by (suc (suc (suc (suc (suc (suc zero)))))) h = refl
+    by (suc (suc (suc (suc (suc (suc (suc zero))))))) h = refl
+    by (suc (suc (suc (suc (suc (suc (suc (suc k)))))))) h = absurd (omega arith)
+
+module _ {p : Parabola} {marks : List Mark} {counts : List ℕ} {total i : ℕ} (e : Examining p marks counts total i) where
   pub examine_next : i < 8 → {r : PartReport} → r ≡ part_report (part p i)
       → Examining p (set marks i r.mark) (set counts i r.hard) (total + r.hard) (i + 1)
   unfolding part_report
@@ -152,7 +177,10 @@ module _ {p : Parabola} {marks counts : List ℕ} {total i : ℕ} (e : Examining
       rw (f, add-one i)
       (record {
         within = h;
-        marking = rw (add-one i) at (write_one (restate (tabulate_next (part_mark p) 8 i h) e.marking));
+        eight = length-set marks i (part_mark p i) ∙ e.eight;
+        marking = λ k l. by_cases (ℕ_discrete k i)
+            (λ s. rw s (get_or-set_same marks i (part_mark p i) mark.Unseen (omega (arith, h, e.eight))))
+            (λ n. get_or-set_other marks i k (part_mark p i) mark.Unseen n ∙ e.marking k (omega arith));
         counting = rw (add-one i) at (write_one (restate (tabulate_next (hard_count p) 8 i h) e.counting));
         to_come = omega (arith, e.to_come, pieces_length p i h);
       })
@@ -161,7 +189,7 @@ module _ {p : Parabola} {marks counts : List ℕ} {total i : ℕ} (e : Examining
   unfolding report tabulate
   examine_done h =
       let f : i ≡ 8 = omega (arith, e.within) in
-      let m : marks ≡ part_marks p = (done (rw f at e.marking)).1 in
+      let m : marks ≡ part_marks p = all_marks p e.eight (λ k l. e.marking k (omega arith)) in
       let c : counts ≡ hard_counts p = (done (rw f at e.counting)).1 in
       let t : total ≡ length (hard_list p) = omega (arith, rw (f, joined_none (piece p) 8) at e.to_come) in
       rw (m, c, t)

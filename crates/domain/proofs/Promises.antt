@@ -37,7 +37,9 @@ use Rattle.domain.specs.Scan.{next_point}
 use Rattle.domain.specs.Answer.{room, domain_checks, domain_number, found, answer_with, domain_answer, marks_of, marks_after, list_after, values_after, hard_residues, scan_checks, scan_number, scan_answer, scan_list_after, scan_values_after}
 use Rattle.domain.specs.Promise.{ParabolaCorrect, ValueInNumbers, HardInNumbers, ListedInNumbers, BesideInNumbers, ValuesBeside, ResidueInSegment, HardInSegment, CoveringsCorrect, WithoutWindow, MarksCorrect, DomainCorrect, OriginCorrect, ScanCorrect, Promised}
 use Rattle.domain.specs.declared.Domain.{Domain}
+use Rattle.domain.specs.Marks.{mark_numbers}
 use Rattle.domain.specs.declared.Searched.{Searched}
+use Rattle.domain.specs.declared.marks.Mark.{Mark}
 use Rattle.domain.proofs.Answers.{Room, searched_in_range, number_accepts, number_as_segment, domain_named, scan_named, scan_accepts}
 use Rattle.domain.proofs.Numbers.{value_in_numbers, hard_by_numbers, nearest, residue_in_segment, hard_in_segment}
 use Rattle.domain.proofs.Parts.{none_listed}
@@ -117,7 +119,7 @@ nothing_over : {xs : List ℕ} (old : List ℕ) → xs ≡ [] → overwrite_fron
 unfolding overwrite_front
 nothing_over old e = rw e refl
 
-module _ (d : Domain) (old_marks old old_values : List ℕ) where
+module _ (d : Domain) (old_marks : List Mark) (old old_values : List ℕ) where
   -- the number of the answer
   abbrev domain_number_of : ℕ
   domain_number_of = domain_number d (length old) (length old_values)
@@ -146,7 +148,7 @@ module _ (d : Domain) (old_marks old old_values : List ℕ) where
         );
         written = λ s e. searched_leaves ((reports s).0 e).0;
         marked = λ s e. let r = (reports s).0 e in
-            subst (λ (m : List ℕ). MarksCorrect d s.first m) (sym (searched_leaves r.0).0)
+            subst (λ (m : List Mark). MarksCorrect d s.first (mark_numbers m)) (sym (searched_leaves r.0).0)
             (rw r.1 (marks_correct d (taken r.0).0.searchable (verdict regular (covering_of d))));
         cleared = λ s e v. cleared s v ((reports s).0 e);
         buffer = λ s e. buffer ((reports s).0 e).0;
@@ -216,7 +218,7 @@ number_of_rest : (d : Domain) (m n : ℕ) → d.origin ≤ 2 ^ 52 → domain_num
 unfolding domain_number
 number_of_rest d m n h = without_holding (arcs.checks (parabola_of d)) _ (room (hard_arguments d) m n) h
 
-origin_correct : (d : Domain) (o : ℕ) (old_marks old old_values : List ℕ) → d.origin ≤ 2 ^ 52 → o ≤ 2 ^ 52 → OriginCorrect d o old_marks old old_values
+origin_correct : (d : Domain) (o : ℕ) (old_marks : List Mark) (old old_values : List ℕ) → d.origin ≤ 2 ^ 52 → o ≤ 2 ^ 52 → OriginCorrect d o old_marks old old_values
 origin_correct d o old_marks old old_values h k =
     record {
       is = refl;
@@ -369,5 +371,6 @@ promised =
       scans = λ M a b N w old old_values. unfold scan_answer scan_list_after scan_values_after in scan_correct (segment.asked M a b N w) old old_values;
       without_window = without_window;
       domain_numbers = λ r s. (refl, refl, refl, refl, refl, refl);
+      mark_numbers_are = refl;
       scan_numbers = λ r n. (refl, refl, refl, refl);
     }

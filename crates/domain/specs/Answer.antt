@@ -20,6 +20,7 @@ use Rattle.domain.specs.Scan.{listed_from, lowered_values}
 use Rattle.domain.specs.Phases.{marks}
 use Rattle.domain.specs.declared.Domain.{Domain}
 use Rattle.domain.specs.declared.Searched.{Searched}
+use Rattle.domain.specs.declared.marks.Mark.{Mark}
 
 -- 7, unless the list and the values each have a place for every hard argument
 abbrev pub room : (xs : List ℕ) → (list_places value_places : ℕ) → List Check
@@ -56,11 +57,11 @@ unfoldable pub domain_answer : Domain → (list_places value_places : ℕ) → R
 domain_answer d m n = answer_with (domain_number d m n) (centred_of d)
 
 -- the eight marks of a domain
-abbrev pub marks_of : Domain → List ℕ
+abbrev pub marks_of : Domain → List Mark
 marks_of d = marks (centred_of d)
 
 -- the caller's marks then
-unfoldable pub marks_after : Domain → (list_places value_places : ℕ) → (old : List ℕ) → List ℕ
+unfoldable pub marks_after : Domain → (list_places value_places : ℕ) → (old : List Mark) → List Mark
 marks_after d m n old = unless_refused (domain_number d m n) (marks_of d) old
 
 -- the caller's list: the hard arguments, each as origin + x, from the first place on, and the places after them as they were
@@ -87,7 +88,7 @@ domain_count (Err r) = 0
 unfoldable pub too_few : Parabola → (list_places value_places : ℕ) → ℕ
 too_few p m n = first_failing (room (hard_list p) m n)
 
-abbrev pub marks_with : (number : ℕ) → Parabola → (old : List ℕ) → List ℕ
+abbrev pub marks_with : (number : ℕ) → Parabola → (old : List Mark) → List Mark
 marks_with n p old = unless_refused n (marks p) old
 
 abbrev pub list_with : (number : ℕ) → (origin : ℕ) → Parabola → (old : List ℕ) → List ℕ

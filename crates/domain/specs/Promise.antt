@@ -21,11 +21,14 @@ use Rattle.segment.specs.declared.Verdict.TheVariants.{Clear, Possible}
 use Rattle.parabola.specs.Parabola.{Parabola, value_at, slope_at, second_difference, covering, continued, part_start, part_count, part}
 use Rattle.parabola.specs.Promise.{ValuesCorrect, CoversBothBy, CoveringBothCorrect, CentredCorrect, EightPartsCorrect, PartsCorrect}
 use Rattle.domain.specs.Domain.{parabola_of, centred_of, hard_arguments, listed_arguments, hard_values, covering_of, part_covering, Searchable, Accepted, with_origin}
+use Rattle.domain.specs.Marks.{mark_number, mark_numbers}
 use Rattle.domain.specs.Phases.{mark_of}
 use Rattle.domain.specs.Scan.{next_point}
 use Rattle.domain.specs.Answer.{domain_answer, marks_of, marks_after, list_after, values_after, domain_first, domain_count, hard_residues, scan_answer, scan_list_after, scan_values_after, scan_count}
 use Rattle.domain.specs.declared.Domain.{Domain}
 use Rattle.domain.specs.declared.Searched.{Searched}
+use Rattle.domain.specs.declared.marks.Mark.{Mark}
+use Rattle.domain.specs.declared.marks.Mark.TheVariants as mark
 
 -- ---- the numbers of a call
 
@@ -125,7 +128,7 @@ pub record PhasesCorrect (d : Domain) : Type 0 where
       → (verdict fine (part_covering d i) ≡ Clear) ↔ ((part_covering d i).window ≤ distance fine (part_covering d i))
   pub part_none : (i : ℕ) → 1 ≤ part_count d.count i → verdict fine (part_covering d i) ≡ Clear → NoneInPart d i
 
--- the eight marks: 0 exactly where phase 1 clears the domain, and so all of them. Where it does not, 3 exactly where the part has no argument, and of the others 1
+-- the numbers of the eight marks: 0 exactly where phase 1 clears the domain, and so all of them. Where it does not, 3 exactly where the part has no argument, and of the others 1
 -- exactly where the part is clear, and then no argument of it is hard, 2 exactly where it is possible: a part that has a hard argument is marked 2
 pub record MarksCorrect (d : Domain) (first : Verdict) (marks : List ℕ) : Type 0 where
   pub eight : length marks ≡ 8
@@ -175,7 +178,8 @@ ScanRefusedFor s list_places value_places n = RefusedBy (ScanAsked s list_places
 -- ---- answers
 
 -- what a domain is answered with the marks `old_marks`, a list `old` and values `old_values`, and what is then in them, `new_marks`, `new` and `new_values`
-pub record DomainCorrect (d : Domain) (old_marks old old_values : List ℕ) (answer : Result Searched Refusal) (new_marks new new_values : List ℕ) : Type 0 where
+pub record DomainCorrect (d : Domain) (old_marks : List Mark) (old old_values : List ℕ) (answer : Result Searched Refusal) (new_marks : List Mark)
+    (new new_values : List ℕ) : Type 0 where
   -- a refusal is answered exactly where the condition of its number is the first that does not hold, and leaves marks, list and values as they were
   pub refused : (r : Refusal) → (answer ≡ Err r) ↔ RefusedFor d (length old) (length old_values) (number_of r)
   pub unchanged : (r : Refusal) → answer ≡ Err r → (new_marks ≡ old_marks) × (new ≡ old) × (new_values ≡ old_values)
@@ -183,7 +187,7 @@ pub record DomainCorrect (d : Domain) (old_marks old old_values : List ℕ) (ans
   pub searched : (s : Searched) → (answer ≡ Ok s)
       ↔ (Accepted d × (length (hard_arguments d) ≤ length old) × (length (hard_arguments d) ≤ length old_values)
       × (s.first ≡ verdict regular (covering_of d)) × (s.listed ≡ length (hard_arguments d)))
-  pub marked : (s : Searched) → answer ≡ Ok s → MarksCorrect d s.first new_marks
+  pub marked : (s : Searched) → answer ≡ Ok s → MarksCorrect d s.first (mark_numbers new_marks)
   pub cleared : (s : Searched) → answer ≡ Ok s → s.first ≡ Clear
       → (s.listed ≡ 0) × (new ≡ old) × (new_values ≡ old_values) × ((x : ℕ) → HardInNumbers d x → ⊥)
   pub written : (s : Searched) → answer ≡ Ok s
@@ -201,7 +205,7 @@ pub record DomainCorrect (d : Domain) (old_marks old old_values : List ℕ) (ans
 
 -- with another origin `o`, a domain is answered the same, leaves the same marks and values, and each listed argument moves by the difference of the origins, where
 -- both are at most 2^52
-pub record OriginCorrect (d : Domain) (o : ℕ) (old_marks old old_values : List ℕ) : Type 0 where
+pub record OriginCorrect (d : Domain) (o : ℕ) (old_marks : List Mark) (old old_values : List ℕ) : Type 0 where
   -- it has the same other numbers
   pub is : with_origin o d
       ≡ record { origin = o; modulus = d.modulus; value = d.value; slope = d.slope; curve = d.curve; count = d.count; window = d.window }
@@ -261,12 +265,12 @@ pub record Promised : Type 0 where
   -- counts that were accepted before document 02's 2.2, the multiples of 8 from 8 on, have the marks of before: by the verdict on each of eight parts of N/8
   -- arguments, of which none is without arguments
   pub marks_as_before : (d : Domain) → Searchable d → 8 ≤ d.count → d.count % 8 ≡ 0 → verdict regular (covering_of d) ≡ Possible → (i : ℕ) → i < 8
-      → get_or (marks_of d) i 0 ≡ mark_of (verdict fine (covering (continued (centred_of d) (i * (d.count / 8)) (d.count / 8))))
-  pub domains : (d : Domain) (old_marks old old_values : List ℕ)
+      → get_or (mark_numbers (marks_of d)) i 0 ≡ mark_number (mark_of (verdict fine (covering (continued (centred_of d) (i * (d.count / 8)) (d.count / 8)))))
+  pub domains : (d : Domain) (old_marks : List Mark) (old old_values : List ℕ)
       → DomainCorrect d old_marks old old_values (domain_answer d (length old) (length old_values))
       (marks_after d (length old) (length old_values) old_marks) (list_after d (length old_values) old) (values_after d (length old) old_values)
   -- nothing but the listed arguments depends on the origin
-  pub origins : (d : Domain) (o : ℕ) (old_marks old old_values : List ℕ) → d.origin ≤ 2 ^ 52 → o ≤ 2 ^ 52 → OriginCorrect d o old_marks old old_values
+  pub origins : (d : Domain) (o : ℕ) (old_marks : List Mark) (old old_values : List ℕ) → d.origin ≤ 2 ^ 52 → o ≤ 2 ^ 52 → OriginCorrect d o old_marks old old_values
   pub scans : (M a b N w : ℕ) (old old_values : List ℕ)
       → segment_promise.for_segment
       (λ s. ScanCorrect s old old_values (scan_answer M a b N w (length old) (length old_values))
@@ -276,5 +280,6 @@ pub record Promised : Type 0 where
   pub domain_numbers : (r : Refusal) (s : Searched)
       → (number_in {A = Searched} (Err r) ≡ number_of r) × (number_in (Ok s) ≡ 0) × (domain_count (Err r) ≡ 0) × (domain_count (Ok s) ≡ s.listed)
       × (domain_first (Err r) ≡ Possible) × (domain_first (Ok s) ≡ s.first)
+  pub mark_numbers_are : mark_numbers (mark.Unseen ∷ mark.Clear ∷ mark.Possible ∷ mark.Empty ∷ []) ≡ 0 ∷ 1 ∷ 2 ∷ 3 ∷ []
   pub scan_numbers : (r : Refusal) (n : ℕ)
       → (number_in {A = ℕ} (Err r) ≡ number_of r) × (number_in (Ok n) ≡ 0) × (scan_count (Err r) ≡ 0) × (scan_count (Ok n) ≡ n)

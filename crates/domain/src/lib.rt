@@ -13,10 +13,12 @@ ghost use Rattle.arc.specs.Arc.{parabola};
 ghost use Rattle.domain.specs.Domain.{centred_of, Accepted};
 ghost use Rattle.domain.specs.Answer.{too_few, answer_with, marks_with, list_with, values_with, domain_answer, marks_after, list_after, values_after, scan_answer, scan_list_after, scan_values_after};
 
+mod marks;
 mod phases;
 mod scan;
 
 use arc::{Arc, Within};
+pub use marks::Mark;
 use numbers::{Refusal, add, min, subtract};
 use scan::{Scan, list_all};
 use segment::{Segment, Verdict};
@@ -91,15 +93,14 @@ fn line(segment: Segment) -> Scan
 }
 
 // Searches a domain in three phases: the whole of it; if that is possible, each of eight parts; and all arguments of the parts that are
-// possible. Each part has an eighth of the arguments, rounded down, and the first ones have one more until the rest is used up. The marks become 0
-// where parts are not looked at, 1 for a part that is clear, 2 for one that is possible and was scanned, 3 for one that has no argument. The hard
-// arguments x are listed as by a scan, each as origin + x, and beside each, at the same place of the values, V(x).
+// possible. Each part has an eighth of the arguments, rounded down, and the first ones have one more until the rest is used up. The marks tell what was found of
+// each part. The hard arguments x are listed as by a scan, each as origin + x, and beside each, at the same place of the values, V(x).
 // Refused: for a modulus outside 2 to 2^62, else for a slope or a value that is not below it (by the names `Step` and `Start`), else for a count outside 1 to
 // 1,048,576, else for a window outside 1 to the modulus, else for a curve outside -1,048,576 to 1,048,576, else for an origin above 2^52, else for room where the list
 // or the values have fewer places than there are hard arguments. On a refusal marks, list and values are as they were.
 pub fn search_domain(
     domain: Domain,
-    marks: &mut [u8; 8],
+    marks: &mut [Mark; 8],
     list: &mut [u64],
     values: &mut [u64],
 ) -> Result<Searched, Refusal>
@@ -126,7 +127,7 @@ pub fn search_domain(
     } else {
         match scan.within.regular_verdict() {
             Verdict::Clear => {
-                *marks = [0u8; 8];
+                *marks = [Mark::Unseen; 8];
                 Ok(Searched {
                     first: Verdict::Clear,
                     listed: 0,
@@ -166,7 +167,7 @@ fn centred(domain: Domain) -> Scan
 // Phases 2 and 3 of an arc that phase 1 does not clear: the hard arguments are counted before anything is written.
 fn search_parts(
     scan: Scan,
-    marks: &mut [u8; 8],
+    marks: &mut [Mark; 8],
     list: &mut [u64],
     values: &mut [u64],
 ) -> Result<Searched, Refusal>

@@ -7,21 +7,23 @@ ghost use Rattle.arc.specs.Arc.{parabola};
 ghost use Rattle.domain.specs.Phases.{part_report, hard_counts, report};
 ghost use Rattle.domain.specs.Scan.{listed_from, lowered_values};
 
+use crate::marks::Mark;
 use crate::scan::Scan;
 use arc::{Arc, Within};
 use numbers::min;
+use segment::Verdict;
 
 // Of a part: its mark, and how many hard arguments it has.
 #[derive(Clone, Copy)]
 struct PartReport {
-    mark: u8,
+    mark: Mark,
     hard: u32,
 }
 
 // Of all parts: the marks, how many hard arguments each has, and how many they have together.
 #[derive(Clone, Copy)]
 pub(crate) struct Report {
-    pub(crate) marks: [u8; 8],
+    pub(crate) marks: [Mark; 8],
     pub(crate) hard: [u32; 8],
     pub(crate) total: u32,
 }
@@ -75,13 +77,19 @@ impl Scan {
         ensures { result ≡ part_report (part (parabola self.within.arc) i) }
     {
         if part_count(self.within.arc.count, i) == 0 {
-            return PartReport { mark: 3, hard: 0 };
+            return PartReport {
+                mark: Mark::Empty,
+                hard: 0,
+            };
         }
         let part = self.part(i);
         match part.within.fine_verdict() {
-            segment::Verdict::Clear => PartReport { mark: 1, hard: 0 },
-            segment::Verdict::Possible => PartReport {
-                mark: 2,
+            Verdict::Clear => PartReport {
+                mark: Mark::Clear,
+                hard: 0,
+            },
+            Verdict::Possible => PartReport {
+                mark: Mark::Possible,
                 hard: part.count_hard(),
             },
         }
@@ -90,7 +98,7 @@ impl Scan {
     pub(crate) fn examine_parts(self) -> Report
         ensures { result ≡ report (parabola self.within.arc) }
     {
-        let mut marks = [0u8; 8];
+        let mut marks = [Mark::Unseen; 8];
         let mut hard = [0u32; 8];
         let mut total: u32 = 0;
         for i in 0..8 {
