@@ -1,4 +1,5 @@
--- A text that begins with a name is that name and the rest, and the other way round. Assumes nothing.
+-- A text that begins with a name is that name and the rest, and the other way round.
+-- Assumes nothing.
 use mathlib.Core.Path.{◌≡◌, refl}
 use mathlib.Core.Bool.{true, false≢true}
 use mathlib.Core.List.{List, [], ◌∷◌, ◌++◌}

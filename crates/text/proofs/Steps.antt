@@ -1,4 +1,5 @@
--- One step of the reading, at a place of a text: what the functions that read it need. Assumes nothing.
+-- One step of the reading, at a place of a text: what the functions that read it need.
+-- Assumes nothing.
 use mathlib.Core.Path.{◌≡◌}
 use mathlib.Core.Bool.{true, false, cond, ◌&&◌, and-eq-true_iff}
 use mathlib.Core.List.{List}

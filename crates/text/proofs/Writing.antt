@@ -1,4 +1,5 @@
--- Bytes that are written as far as there are places; and pieces that are written one after another. Assumes nothing.
+-- Bytes that are written as far as there are places; and pieces that are written one after another.
+-- Assumes nothing.
 use mathlib.Core.Path.{◌≡◌, refl, sym, ap}
 use mathlib.Core.List.{List, [], ◌++◌, append-nil}
 use Prim.Native.Nat.{ℕ, ◌+◌, ◌-◌, ◌≤◌, min}

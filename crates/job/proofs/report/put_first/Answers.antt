@@ -5,4 +5,5 @@ use Rattle.text.proofs.Laws.{wrote_more}
 use Rattle.job.proofs.report.put_first.Goals as goal
 
 pub returns : goal.returns
-returns c = wrote_more (bytes "first=") _ c.put.ensures (wrote_more _ _ c.put_verdict.ensures c.put_byte.ensures)
+returns c =
+    wrote_more (bytes "first=") _ c.put.ensures (wrote_more _ _ c.put_verdict.ensures c.put_byte.ensures)

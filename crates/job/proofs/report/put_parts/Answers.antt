@@ -5,4 +5,5 @@ use Rattle.text.proofs.Laws.{wrote_more}
 use Rattle.job.proofs.report.put_parts.Goals as goal
 
 pub returns : goal.returns
-returns c = wrote_more (bytes "parts=") _ c.put.ensures (wrote_more _ _ c.put_marks.ensures c.put_byte.ensures)
+returns c =
+    wrote_more (bytes "parts=") _ c.put.ensures (wrote_more _ _ c.put_marks.ensures c.put_byte.ensures)

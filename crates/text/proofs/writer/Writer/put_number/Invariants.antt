@@ -1,5 +1,6 @@
--- The invariant of `text::writer::Writer::put_number`'s loop: of the twenty places those after `first` have the
--- number's last digits, and the digits of `left` come before them. The measure is `left`.
+-- The invariant of `text::writer::Writer::put_number`'s loop: of the twenty places those after
+-- `first` have the number's last digits, and the digits of `left` come before them. The measure is
+-- `left`.
 use Rattle.text.proofs.Decimals.{DigitsAfter}
 use Rattle.text.proofs.writer.Writer.put_number.Given as goal
 
