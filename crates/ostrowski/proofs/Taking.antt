@@ -50,7 +50,7 @@ module _ {M a : ℕ} {table : Table} (f : Ok table ≡ answer M a) where
   remainders_tabled = correct.remainders
 
 module _ {M a : ℕ} {denominators : List ℕ} {m : ℕ} (t : Tabled M a denominators m) where
-  pub few_rows : m ≤ 88
+  few_rows : m ≤ 88
   few_rows = omega (arith, t.last_is, ((expansion.promised).few M a t.accepted.small).last_at_most_88 t.accepted.most)
 
   period_read : get_or denominators m 0 ≡ period M a
@@ -64,12 +64,14 @@ module _ {M a : ℕ} {denominators : List ℕ} {m : ℕ} (t : Tabled M a denomin
   argument_refused {x = x} b l =
       outcome_refused (argument_checks M a x) Argument b (last_refused t.accepted (λ h. omega (arith, period_read)))
 
+pub table_few : (M a : ℕ) (table : Table) → Ok table ≡ answer M a → table.last ≤ 88
+table_few M a table f = few_rows (tabled f)
+
 -- ---- the rows from one on are taken
 
 pub record Taking (M a x : ℕ) (denominators : List ℕ) (m rest row : ℕ) : Type 0 where
   pub table : Tabled M a denominators m
   pub within : x < period M a
-  pub few : m ≤ 88
   pub there : row ≤ m
   pub rest_is : rest ≡ sum_below M a (digits_of M a x) row
 
@@ -80,7 +82,6 @@ taking_first {M} {a} {x} t l =
     record {
       table = t;
       within = within;
-      few = few_rows t;
       there = omega arith;
       rest_is = rw t.last_is (sym (digits_sum_to M a t.accepted.small x within));
     }
@@ -123,7 +124,6 @@ module _ {M a x : ℕ} {denominators : List ℕ} {m rest row : ℕ} (t : Taking 
         record {
           table = t.table;
           within = t.within;
-          few = t.few;
           there = omega (arith, t.there);
           rest_is = rw (read, split) (remainder_of_sum (get_or (digits_of M a x) i 0) low);
         }
@@ -136,7 +136,7 @@ goal M a x = zero_padded places (digits_of M a x)
 
 module _ {M a x : ℕ} {denominators : List ℕ} {m rest row : ℕ} (t : Taking M a x denominators m rest row) where
   room : length (digits_of M a x) ≤ places
-  room = omega (arith, digits_many M a x, t.few, t.table.last_is)
+  room = omega (arith, digits_many M a x, few_rows t.table, t.table.last_is)
 
   pub none_written : row ≡ m → AgreesFrom (goal M a x) (replicate places 0) row
   none_written e =

@@ -19,6 +19,7 @@ pub struct Numeral {
 
 // The digits of an argument, by division from row m - 1 down to row 0. Refused: a modulus or a step
 // as by the expansion, then an argument that is not below the period.
+#[tactic(auto, using(crate::proofs::Taking::table_few, crate::proofs::Taking::denominator_positive))]
 pub fn digits(modulus: u64, step: u64, argument: u64) -> Result<Numeral, Refusal>
     ensures { result ≡ digits_answer modulus step argument }
 {
@@ -47,6 +48,7 @@ pub fn digits(modulus: u64, step: u64, argument: u64) -> Result<Numeral, Refusal
 
 // The residue step·argument modulo the modulus, from the digits: each row's term less what the rows
 // above it come to. Every product is below the modulus. Refused as digits.
+#[tactic(auto, using(crate::proofs::Taking::table_few, crate::proofs::Taking::denominator_positive))]
 pub fn residue(modulus: u64, step: u64, argument: u64) -> Result<u64, Refusal>
     ensures { result ≡ residue_answer modulus step argument }
 {

@@ -3,18 +3,12 @@ use Rattle.std.proofs.Common.{Ok, ap, ◌∙◌, rules, arith}
 use Rattle.expansion.specs.Answer.{answer}
 use Rattle.ostrowski.specs.Answer.{residue_answer}
 use Rattle.ostrowski.proofs.Refusals.{argument_first}
-use Rattle.ostrowski.proofs.Taking.{tabled, remainders_tabled, few_rows, argument_refused, argument_accepted, taking_first, denominator_positive, reducing_first, reducing_next, residue_below, term_fits, residue_made}
+use Rattle.ostrowski.proofs.Taking.{tabled, remainders_tabled, argument_refused, argument_accepted, taking_first, reducing_first, reducing_next, residue_below, term_fits, residue_made}
 use Rattle.ostrowski.proofs.residue.Goals as goal
 
 pub returns-in_err-remainders : goal.returns-in_err-remainders
 unfolding answer residue_answer
 returns-in_err-remainders c = search (rules, argument_first)
-
-pub offset_bounds-denominators-last : goal.offset_bounds-denominators-last
-offset_bounds-denominators-last c = let h = few_rows (tabled c.in_ok-remainders.ensures) in omega arith
-
-pub bounds-denominators-last : goal.bounds-denominators-last
-bounds-denominators-last c = let h = few_rows (tabled c.in_ok-remainders.ensures) in omega arith
 
 pub returns-then-denominators-last : goal.returns-then-denominators-last
 unfolding residue_answer
@@ -25,15 +19,9 @@ loop-row-init c =
     let f = c.in_ok-remainders.ensures in
     reducing_first (taking_first (tabled f) c.if-denominators-last.false) (remainders_tabled f)
 
-pub nonzero_div-term : goal.nonzero_div-term
-nonzero_div-term c = denominator_positive c.loop-row.invariant.taking c.loop-row-test.true
-
 pub overflow_mul-term : goal.overflow_mul-term
 overflow_mul-term c =
     let h = term_fits c.loop-row.invariant c.loop-row-test.true in omega arith
-
-pub nonzero_rem-rest : goal.nonzero_rem-rest
-nonzero_rem-rest c = denominator_positive c.loop-row.invariant.taking c.loop-row-test.true
 
 pub subtract-residue-requires : goal.subtract-residue-requires
 subtract-residue-requires c =
