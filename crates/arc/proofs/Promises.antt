@@ -8,7 +8,7 @@ use Rattle.parabola.specs.Parabola.{triangle, value_at, slope_at}
 use Rattle.arc.specs.Arc.{parabola, refusal, verdict_with, arc_verdict}
 use Rattle.arc.specs.Promise.{ArcCorrect, Promised}
 use Rattle.arc.specs.declared.Arc.{Arc}
-use Rattle.arc.proofs.Refusals.{accepted, refused}
+use Rattle.arc.proofs.Refusals.{accepted, refused, by_name}
 use Rattle.arc.proofs.Coverings.{covering_accepted, cleared, verdict_within}
 use Rattle.arc.proofs.Points.{inside, outside}
 
@@ -41,7 +41,7 @@ pub promised : Promised
 promised =
     record {
       asked_is = λ M c0 c1 s N w. refl;
-      refusals = λ p. record { refused = refused p; accepted = accepted p };
+      refusals = λ p. record { refused = refused p; accepted = accepted p; by_name = by_name p };
       searched = λ p range. record {
         covering_accepted = covering_accepted range;
         cleared = λ k e x h. omega (arith, h.1, cleared range k e x h.0);

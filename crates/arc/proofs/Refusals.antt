@@ -1,18 +1,16 @@
 -- A parabola is within the bounds exactly where no number refuses it. Assumes nothing.
-use mathlib.Core.Path.{◌≡◌, refl, sym, ◌∙◌}
-use mathlib.Core.Bool.{Bool, true, false, not}
-use mathlib.Core.Logic.{◌↔◌, inl}
-use Prim.Native.Nat.{ℕ, suc, ◌≤◌, ◌<◌}
+use mathlib.Core.Path.{◌≡◌, refl}
+use mathlib.Core.Logic.{◌↔◌}
+use Prim.Native.Nat.{ℕ, suc}
 use native.Mathlib.Omega.{arith}
-use lib.Dec.{eqb}
-use lib.IntN.{nat_abs}
-use borrow.Author.Tests.{eqb-true, eqb-false, not-true, not-false}
-use Rattle.numbers.specs.Checklist.{first_failing, RefusedBy}
-use Rattle.numbers.proofs.Checklists.{accepts, refuses, first_of_two, second_of_two}
-use Rattle.numbers.proofs.Checklists.{accepted as all_accepted, refused as first_refused}
-use Rattle.segment.specs.Accepted as segment
+use Rattle.std.proofs.Common.{Ok, Err}
+use Rattle.numbers.specs.Checklist.{conditions, RefusedBy}
+use Rattle.numbers.specs.Refusals.{number_of, named, IsNamed, tested}
+use Rattle.numbers.specs.declared.refusals.Refusal.{Refusal}
+use Rattle.numbers.proofs.Checklists.{AllNumbers, accepts, refuses}
+use Rattle.numbers.proofs.Outcomes.{tested_accepted, outcome_refuses}
 use Rattle.parabola.specs.Parabola.{Parabola, InRange}
-use Rattle.arc.specs.Arc.{line_of, curve_checks, checks, refusal}
+use Rattle.arc.specs.Arc.{checks, refusal}
 use Rattle.arc.specs.Promise.{Asked}
 
 pub accepted : (p : Parabola) → (refusal p ≡ 0) ↔ InRange p
@@ -23,28 +21,15 @@ pub refused : (p : Parabola) (n : ℕ) → (refusal p ≡ suc n) ↔ RefusedBy (
 unfolding refusal
 refused p = refuses (checks p)
 
--- ---- from the number that the segment gets
+-- each number of the checklist is that of a refusal
+pub all_named : (p : Parabola) → AllNumbers IsNamed (conditions (checks p))
+unfolding named
+all_named p = (refl, (refl, (refl, (refl, (refl, (refl, tt))))))
 
-module _ (p : Parabola) {n : ℕ} (e : n ≡ segment.refusal (line_of p)) where
-  pub as_segment : (n ≡ 0 → ⊥) → n ≡ refusal p
-  unfolding refusal segment.refusal
-  as_segment h = sym (first_of_two (segment.checks (line_of p)) (curve_checks p) (sym e) h)
+pub by_name : (p : Parabola) (r : Refusal) → (tested (refusal p) ≡ Err r) ↔ RefusedBy (Asked p) (number_of r)
+unfolding refusal
+by_name p r = outcome_refuses (checks p) tt r (all_named p)
 
-  by_curve : n ≡ 0 → refusal p ≡ first_failing (curve_checks p)
-  unfolding refusal segment.refusal
-  by_curve z = second_of_two (segment.checks (line_of p)) (curve_checks p) ((accepts (segment.checks (line_of p)) (omega arith)).0 (sym e ∙ z))
-
-  pub curve_large : n ≡ 0 → 1048576 < nat_abs p.curve → 6 ≡ refusal p
-  curve_large z h = sym (by_curve z ∙ first_refused (curve_checks p) (inl (refl, λ l. omega (arith, h, l))))
-
-  pub within : n ≡ 0 → nat_abs p.curve ≤ 1048576 → 0 ≡ refusal p
-  within z h = sym (by_curve z ∙ all_accepted (curve_checks p) (h, tt))
-
--- ---- from the test of an arc
-
-module _ (p : Parabola) {test : Bool} (e : test ≡ eqb (refusal p) 0) where
-  pub test_passed : not test ≡ false → InRange p
-  test_passed f = (accepted p).0 (eqb-true (refusal p) 0 (sym e ∙ not-false test f))
-
-  pub test_failed : not test ≡ true → refusal p ≡ 0 → ⊥
-  test_failed f = eqb-false (refusal p) 0 (sym e ∙ not-true test f)
+-- what is not refused is within the bounds
+pub unrefused : (p : Parabola) → tested (refusal p) ≡ Ok tt → InRange p
+unrefused p e = (accepted p).0 (tested_accepted (refusal p) e)

@@ -1,7 +1,9 @@
 -- What is promised of parabolas within the bounds of the code, and of arcs. `Promised`, at the end, is all of it; proofs/Promises.antt proves it. Assumes nothing: these are statements.
-use Rattle.std.specs.Prelude.{◌≡◌, List, [], ◌∷◌, ◌↔◌, ℕ, suc, ◌-◌, ◌*◌, ◌/◌, ◌^◌, ◌≤◌, ◌<◌, ℤ, pos, nat_abs, ◌+ℤ◌, ◌*ℤ◌}
+use Rattle.std.specs.Prelude.{◌≡◌, List, [], ◌∷◌, ◌↔◌, ℕ, suc, ◌-◌, ◌*◌, ◌/◌, ◌^◌, ◌≤◌, ◌<◌, ℤ, pos, nat_abs, ◌+ℤ◌, ◌*ℤ◌, Some, None, Err}
 use Rattle.numbers.specs.Checklist.{Condition, condition, RefusedBy}
 use Rattle.numbers.specs.Integers.{◌modulo◌}
+use Rattle.numbers.specs.Refusals.{number_of, tested}
+use Rattle.numbers.specs.declared.refusals.Refusal.{Refusal}
 use Rattle.expansion.specs.Reached.{Search}
 use Rattle.segment.specs.Accepted as segment
 use Rattle.segment.specs.Search.{verdict}
@@ -9,7 +11,6 @@ use Rattle.segment.specs.declared.Verdict.TheVariants.{Clear}
 use Rattle.parabola.specs.Parabola.{Parabola, InRange, value_at, covering}
 use Rattle.arc.specs.Arc.{asked, parabola, refusal, point_answer, arc_verdict}
 use Rattle.arc.specs.declared.Arc.{Arc}
-use Rattle.arc.specs.declared.PointAnswer.TheVariants.{Outside, At}
 
 -- ---- bounds
 
@@ -28,6 +29,8 @@ Asked p =
 pub record RefusalsCorrect (p : Parabola) : Type 0 where
   pub refused : (n : ℕ) → (refusal p ≡ suc n) ↔ RefusedBy (Asked p) (suc n)
   pub accepted : (refusal p ≡ 0) ↔ InRange p
+  -- and a call answers it by the name that has this number
+  pub by_name : (r : Refusal) → (tested (refusal p) ≡ Err r) ↔ RefusedBy (Asked p) (number_of r)
 
 -- ---- coverings
 
@@ -43,11 +46,13 @@ pub record ArcCorrect (a : Arc) : Type 0 where
   pub numbers : ((parabola a).unit ≡ a.modulus) × ((parabola a).value ≡ a.value) × ((parabola a).slope ≡ a.slope) × ((parabola a).curve ≡ a.curve)
       × ((parabola a).count ≡ a.count)
   pub highest : (v : ℕ) → (v < (parabola a).window) ↔ (v ≤ a.highest)
-  -- V(x) is c0 + c1·x + s·x(x-1)/2 modulo M and the slope c1 + s·x modulo M, at the arguments of an arc within the bounds; elsewhere is outside
+  -- V(x) is c0 + c1·x + s·x(x-1)/2 modulo M and the slope c1 + s·x modulo M, at the arguments of an arc within the bounds; elsewhere is none
   pub inside : (x : ℕ) → InRange (parabola a) → x < a.count
-      → point_answer a x ≡ At ((pos a.value +ℤ pos a.slope *ℤ pos x +ℤ a.curve *ℤ pos (x * (x - 1) / 2)) modulo a.modulus)
-      ((pos a.slope +ℤ a.curve *ℤ pos x) modulo a.modulus)
-  pub outside : (x : ℕ) → (point_answer a x ≡ Outside) ↔ (InRange (parabola a) → x < a.count → ⊥)
+      → point_answer a x ≡ Some (record {
+        value = (pos a.value +ℤ pos a.slope *ℤ pos x +ℤ a.curve *ℤ pos (x * (x - 1) / 2)) modulo a.modulus;
+        slope = (pos a.slope +ℤ a.curve *ℤ pos x) modulo a.modulus;
+      })
+  pub outside : (x : ℕ) → (point_answer a x ≡ None) ↔ (InRange (parabola a) → x < a.count → ⊥)
   -- within the bounds a verdict is that of a search of the covering segment; an arc outside them is never clear, and clear leaves no
   -- argument with a hard value
   pub verdict_is : (k : Search) → InRange (parabola a) → arc_verdict k a ≡ verdict k (covering (parabola a))

@@ -1,43 +1,33 @@
 // Values and slopes, from sums and products modulo M. No product is wider than a word.
-ghost use Rattle.std.specs.Prelude.{◌≡◌, ◌+◌, ◌*◌, ◌%◌, ◌^◌, ◌≤◌, ◌<◌};
-ghost use Rattle.parabola.specs.Parabola.{InRange, value_at, slope_at};
+ghost use Rattle.std.specs.Prelude.{◌≡◌, ◌*◌, ◌%◌, ◌^◌, ◌≤◌, ◌<◌};
+ghost use Rattle.parabola.specs.Parabola.{value_at, slope_at};
 ghost use Rattle.arc.specs.Arc.{parabola};
 
-use crate::Arc;
-use numbers::remainder;
+use crate::Within;
+use numbers::{add, remainder};
 
-// V(x)
-pub(crate) fn value_at(arc: Arc, x: u64) -> u64
-    requires in_range { InRange (parabola arc) }
-    requires x_bound { x ≤ 1048576 }
-    ensures { result ≡ value_at (parabola arc) x }
-{
-    let triangle = (x * x - x) / 2;
-    let along = add(arc.value, times(arc.slope, x, arc.modulus), arc.modulus);
-    let bent = remainder(arc.curve * triangle as i64, arc.modulus);
-    add(along, bent, arc.modulus)
-}
-
-// V(x + 1) - V(x)
-pub(crate) fn slope_at(arc: Arc, x: u64) -> u64
-    requires in_range { InRange (parabola arc) }
-    requires x_bound { x ≤ 1048576 }
-    ensures { result ≡ slope_at (parabola arc) x }
-{
-    let bent = remainder(arc.curve * x as i64, arc.modulus);
-    add(arc.slope, bent, arc.modulus)
-}
-
-// a + b
-fn add(a: u64, b: u64, modulus: u64) -> u64
-    requires { (a < modulus) × (b < modulus) × (modulus ≤ 2 ^ 62) }
-    ensures { result ≡ (a + b) % modulus }
-{
-    let sum = a + b;
-    if sum < modulus {
-        return sum;
+impl Within {
+    // V(x)
+    pub(crate) fn value_at(self, x: u64) -> u64
+        requires { x ≤ 1048576 }
+        ensures { result ≡ value_at (parabola self.arc) x }
+    {
+        let arc = self.arc;
+        let triangle = (x * x - x) / 2;
+        let along = add(arc.value, times(arc.slope, x, arc.modulus), arc.modulus);
+        let bent = remainder(arc.curve * triangle as i64, arc.modulus);
+        add(along, bent, arc.modulus)
     }
-    sum - modulus
+
+    // V(x + 1) - V(x)
+    pub(crate) fn slope_at(self, x: u64) -> u64
+        requires { x ≤ 1048576 }
+        ensures { result ≡ slope_at (parabola self.arc) x }
+    {
+        let arc = self.arc;
+        let bent = remainder(arc.curve * x as i64, arc.modulus);
+        add(arc.slope, bent, arc.modulus)
+    }
 }
 
 // a times a number, by doubling a for each binary digit of the number

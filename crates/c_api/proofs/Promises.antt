@@ -1,155 +1,122 @@
 -- What is promised of the C functions. Assumes nothing.
-use mathlib.Core.Path.{◌≡◌, refl, sym, ◌∙◌}
-use mathlib.Core.List.{List}
-use mathlib.Core.Logic.{◌↔◌}
-use Prim.Native.Nat.{ℕ, zero, suc}
-use native.Mathlib.Omega.{arith}
-use lib.ListN.{length}
-use Rattle.numbers.specs.Checklist.{unless_refused}
+use Rattle.std.proofs.Common.{◌≡◌, ◌↔◌, ℕ, suc, ◌*◌, ◌%◌, List, length, Result, Ok, Err, IsOkAnd, ◌<◌, refl, sym, ap, ◌∙◌, arith}
+use Rattle.numbers.specs.Checklist.{Check, conditions, first_failing, AllHold, RefusedBy, unless_refused}
+use Rattle.numbers.specs.Refusals.{named, IsNamed, outcome, number_in}
+use Rattle.numbers.specs.declared.refusals.Refusal.{Refusal}
 use Rattle.numbers.proofs.Equivalences.{through}
-use Rattle.numbers.proofs.Checklists.{accepts, refuses, unrefused_new, refused_old}
+use Rattle.numbers.proofs.Checklists.{AllNumbers, accepts, refuses, unrefused_new, refused_old}
+use Rattle.numbers.proofs.Outcomes.{failing_number, all_numbered}
+use Rattle.expansion.specs.Rows.{period}
 use Rattle.expansion.specs.Answer.{answer}
 use Rattle.expansion.specs.declared.Table.{Table}
-use Rattle.expansion.specs.declared.Answer.{Answer}
 use Rattle.ostrowski.proofs.Promises as ostrowski
-use Rattle.ostrowski.specs.declared.NumberAnswer.{NumberAnswer}
-use Rattle.ostrowski.specs.declared.NumberAnswer.TheVariants as number_variants
-use Rattle.ostrowski.specs.Answer.{argument_checks, target_checks, argument_refusal, target_refusal, number_answer_with, digits_answer, residue_answer, divide_answer, refusal_of}
+use Rattle.ostrowski.specs.Answer.{argument_checks, target_checks, argument_refusal, target_refusal, digits_answer, residue_answer, divide_answer}
 use Rattle.geometry.specs.Segment.{Segment, segment}
 use Rattle.segment.specs.Accepted as segments
-use Rattle.segment.specs.Answer.{regular_answer_with, fine_answer_with, regular_answer, fine_answer, regular_refusal, fine_refusal}
-use Rattle.parabola.specs.Parabola.{Parabola}
-use Rattle.domain.specs.Domain.{centred_of}
+use Rattle.segment.specs.Answer.{regular_answer, fine_answer}
 use Rattle.domain.specs.declared.Domain.{Domain}
-use Rattle.domain.specs.Answer.{domain_checks, domain_number, answer_with, domain_answer, marks_of, marks_after, list_after, values_after, domain_refusal, scan_checks, scan_number, scan_answer_with, scan_answer, scan_list_after, scan_values_after, scan_refusal}
-use Rattle.c_api.specs.Memory.{Delivered, digits_memory, count_memory, number_memory, verdict_number, regular_memory, fine_memory, scan_memory, domain_memory}
+use Rattle.domain.specs.Answer.{domain_checks, domain_number, domain_answer, marks_after, list_after, values_after, scan_checks, scan_number, scan_answer, scan_list_after, scan_values_after}
+use Rattle.c_api.specs.Memory.{handed, Delivered, number_memory, verdict_number}
 use Rattle.c_api.specs.Promise.{Promised}
+use Rattle.c_api.proofs.Memory.{unchanged}
 
 -- ---- the expansion
 
 -- what is handed over is the number, and the table that an answer has or the one that was there, column by column
-delivered : (e : Answer) {n k : ℕ} {old new table : Table} → e.refusal ≡ k → unless_refused e.refusal e.table old ≡ table
-    → Delivered e n old new
+delivered : (r : Result Table Refusal) {n k : ℕ} {old new table : Table} → number_in r ≡ k → handed (λ t. t) r old ≡ table
+    → Delivered r n old new
     ↔ ((n ≡ k) × (new.remainders ≡ table.remainders) × (new.denominators ≡ table.denominators) × (new.quotients ≡ table.quotients) × (new.last ≡ table.last))
-delivered e {n} {k} {old} {new} {table} z t = (
+delivered r {n} {k} {old} {new} {table} z t = (
   λ d. let same : new ≡ table = d.left ∙ t in (d.returned ∙ z, cc, cc, cc, cc),
   λ h. let same : new ≡ table = λ j. record { remainders = h.1 j; denominators = h.2 j; quotients = h.3 j; last = h.4 j } in
       record { returned = h.0 ∙ sym z; left = same ∙ sym t },
 )
 
--- ---- what a number makes of an answer
+-- ---- an answer by a checklist
 
--- the number that an answer carries is the one that its checklist gives
-module _ (s : Segment) where
-  regular_number : (n : ℕ) → regular_refusal (regular_answer_with n s) ≡ n
-  unfolding regular_refusal regular_answer_with
-  regular_number zero = refl
-  regular_number (suc n) = refl
+-- its number is 0 exactly where all holds that is asked, and another one exactly where that number refuses
+module _ {A : Type 0} (cs : List Check) (shown : A) (all : AllNumbers IsNamed (conditions cs)) where
+  by_zero : (number_in (outcome (first_failing cs) shown) ≡ 0) ↔ AllHold (conditions cs)
+  by_zero = through (failing_number cs shown all) (accepts cs (all_numbered (conditions cs) all))
 
-  fine_number : (n : ℕ) → fine_refusal (fine_answer_with n s) ≡ n
-  unfolding fine_refusal fine_answer_with
-  fine_number zero = refl
-  fine_number (suc n) = refl
+  by_number : (n : ℕ) → (number_in (outcome (first_failing cs) shown) ≡ suc n) ↔ RefusedBy (conditions cs) (suc n)
+  by_number n = through (failing_number cs shown all) (refuses cs n)
 
-  scan_number_is : (n : ℕ) → scan_refusal (scan_answer_with n s) ≡ n
-  unfolding scan_refusal scan_answer_with
-  scan_number_is zero = refl
-  scan_number_is (suc n) = refl
+-- what is there stays where the answer has a number
+kept : (cs : List Check) {A B : Type 0} (shown : A) (new old : B) {n : ℕ} → AllNumbers IsNamed (conditions cs)
+    → number_in (outcome (first_failing cs) shown) ≡ suc n → unless_refused (first_failing cs) new old ≡ old
+kept cs shown new old all e = refused_old (first_failing cs) new old (λ z. omega (arith, z, sym (failing_number cs shown all) ∙ e))
 
-number_is : (n y : ℕ) → refusal_of (number_answer_with n y) ≡ n
-unfolding refusal_of number_answer_with
-number_is zero y = refl
-number_is (suc n) y = refl
+-- what holds of a number that is shown holds of what the memory has then
+left_holds : (r : Result ℕ Refusal) (P : ℕ → Type 0) (old : ℕ) → IsOkAnd r P → P (number_memory r old)
+left_holds (Ok y) P old h = h
+left_holds (Err e) P old h = absurd h
 
-number_unchanged : (r : NumberAnswer) (old : ℕ) {n : ℕ} → refusal_of r ≡ suc n → number_memory r old ≡ old
-unfolding refusal_of number_memory
-number_unchanged (number_variants.Refused k) old e = refl
-number_unchanged (number_variants.Found y) old e = absurd (omega (arith, e))
+-- the numbers of each call's checklist are those of refusals
+arguments_named : (M a x : ℕ) → AllNumbers IsNamed (conditions (argument_checks M a x))
+unfolding named
+arguments_named M a x = (refl, (refl, (refl, tt)))
 
-number_left : {r : NumberAnswer} {y : ℕ} (old : ℕ) → r ≡ number_variants.Found y → number_memory r old ≡ y
-unfolding number_memory
-number_left old e = rw e refl
+targets_named : (M a t : ℕ) → AllNumbers IsNamed (conditions (target_checks M a t))
+unfolding named
+targets_named M a t = (refl, (refl, (refl, tt)))
 
-domain_number_is : (p : Parabola) (n : ℕ) → domain_refusal (answer_with n p) ≡ n
-unfolding domain_refusal answer_with
-domain_number_is p zero = refl
-domain_number_is p (suc n) = refl
+segments_named : (s : Segment) → AllNumbers IsNamed (conditions (segments.checks s))
+unfolding named
+segments_named s = (refl, (refl, (refl, (refl, (refl, tt)))))
 
--- ---- the calls
+scans_named : (s : Segment) (m n : ℕ) → AllNumbers IsNamed (conditions (scan_checks s m n))
+unfolding named
+scans_named s m n = (refl, (refl, (refl, (refl, (refl, (refl, tt))))))
 
-module _ (M a b N w n : ℕ) where
-  regular_unchanged : (old : List ℕ) → regular_refusal (regular_answer M a b N w) ≡ suc n → regular_memory (regular_answer M a b N w) old ≡ old
-  unfolding regular_answer regular_memory regular_answer_with
-  regular_unchanged old e = rw (sym (regular_number (segment M a b N w) (segments.refusal (segment M a b N w))) ∙ e)
-
-  fine_unchanged : (old : List ℕ) → fine_refusal (fine_answer M a b N w) ≡ suc n → fine_memory (fine_answer M a b N w) old ≡ old
-  unfolding fine_answer fine_memory fine_answer_with
-  fine_unchanged old e = rw (sym (fine_number (segment M a b N w) (segments.refusal (segment M a b N w))) ∙ e)
-
-  scan_unchanged : (list values : List ℕ) (old : ℕ) → scan_refusal (scan_answer M a b N w (length list) (length values)) ≡ suc n
-      → (scan_memory (scan_answer M a b N w (length list) (length values)) old ≡ old) × (scan_list_after M a b N w (length values) list ≡ list)
-      × (scan_values_after M a b N w (length list) values ≡ values)
-  unfolding scan_answer scan_memory scan_answer_with scan_list_after scan_values_after
-  scan_unchanged list values old e =
-      let f : scan_number (segment M a b N w) (length list) (length values) ≡ suc n = sym (scan_number_is (segment M a b N w) _) ∙ e in
-      let kept : scan_number (segment M a b N w) (length list) (length values) ≡ 0 → ⊥ = λ z. omega (arith, z, f) in
-      (rw f, refused_old _ _ list kept, refused_old _ _ values kept)
-
-domain_unchanged : (d : Domain) (n : ℕ) (marks list values searched : List ℕ) → domain_refusal (domain_answer d (length list) (length values)) ≡ suc n
-    → (marks_after d (length list) (length values) marks ≡ marks) × (list_after d (length values) list ≡ list) × (values_after d (length list) values ≡ values)
-    × (domain_memory (domain_answer d (length list) (length values)) searched ≡ searched)
-unfolding domain_answer domain_memory answer_with marks_after list_after values_after
-domain_unchanged d n marks list values searched e =
-    let f : domain_number d (length list) (length values) ≡ suc n = sym (domain_number_is (centred_of d) _) ∙ e in
-    let kept : domain_number d (length list) (length values) ≡ 0 → ⊥ = λ z. omega (arith, z, f) in
-    (refused_old _ _ marks kept, refused_old _ _ list kept, refused_old _ _ values kept, rw f)
-
-domain_marks : (d : Domain) (marks list values : List ℕ) → domain_refusal (domain_answer d (length list) (length values)) ≡ 0
-    → marks_after d (length list) (length values) marks ≡ marks_of d
-unfolding domain_answer marks_after
-domain_marks d marks list values e = unrefused_new _ marks (sym (domain_number_is (centred_of d) _) ∙ e)
+domains_named : (d : Domain) (m n : ℕ) → AllNumbers IsNamed (conditions (domain_checks d m n))
+unfolding named
+domains_named d m n = (refl, (refl, (refl, (refl, (refl, (refl, (refl, (refl, tt))))))))
 
 pub promised : Promised
-unfolding verdict_number digits_memory count_memory number_memory residue_answer divide_answer argument_refusal target_refusal regular_memory fine_memory scan_memory domain_memory regular_answer fine_answer scan_answer domain_answer segments.refusal scan_number domain_number
+unfolding verdict_number residue_answer divide_answer argument_refusal target_refusal regular_answer fine_answer scan_answer domain_answer segments.refusal scan_number domain_number scan_list_after scan_values_after marks_after list_after values_after
 promised =
     record {
-      expand_numbers = λ M a n m m' us qs ks us' qs' ks' z. delivered (answer M a) z (unrefused_new _ _ z);
-      expand_unchanged = λ M a n k m m' us qs ks us' qs' ks' z. delivered (answer M a) z (refused_old _ _ _ (λ y. omega (arith, y, z)));
-      digits_unchanged = λ M a x n k old e.
-          let z : (digits_answer M a x).refusal ≡ 0 → ⊥ = λ y. omega (arith, y, e) in (refused_old _ _ old z, refused_old _ _ k z);
-      digits_numbers = λ M a x k old e. (unrefused_new _ old e, unrefused_new _ k e);
-      residue_accepted = λ M a x. through (number_is _ _) (accepts (argument_checks M a x) (omega arith));
-      residue_refused = λ M a x n. through (number_is _ _) (refuses (argument_checks M a x) n);
-      divide_accepted = λ M a t. through (number_is _ _) (accepts (target_checks M a t) (omega arith));
-      divide_refused = λ M a t n. through (number_is _ _) (refuses (target_checks M a t) n);
-      residue_unchanged = λ M a x n old e. number_unchanged _ old e;
-      residue_left = λ M a x old h.
-          number_left old ((((ostrowski.promised).residue_answers M a x).found _).1 (h, refl));
-      divide_unchanged = λ M a t n old e. number_unchanged _ old e;
-      divide_left = λ M a t old h.
-          let d = (ostrowski.promised).divide_answers M a t in
-          let s = d.shown h in
-          rw (number_left old ((d.found _).1 (h, (s.1, s.2)))) (s.1, s.2);
+      expand_numbers = λ M a n m m' us qs ks us' qs' ks' t e. delivered (answer M a) (ap number_in e) (rw e refl);
+      expand_unchanged = λ M a n k m m' us qs ks us' qs' ks' z. delivered (answer M a) z (unchanged (λ t. t) (answer M a) _ z);
+      digits_unchanged = λ M a x n k old e. (unchanged _ (digits_answer M a x) old e, unchanged _ (digits_answer M a x) k e);
+      digits_numbers = λ M a x k old d e. rw e (refl, refl);
+      residue_accepted = λ M a x. by_zero (argument_checks M a x) _ (arguments_named M a x);
+      residue_refused = λ M a x. by_number (argument_checks M a x) _ (arguments_named M a x);
+      divide_accepted = λ M a t. by_zero (target_checks M a t) _ (targets_named M a t);
+      divide_refused = λ M a t. by_number (target_checks M a t) _ (targets_named M a t);
+      residue_unchanged = λ M a x n old e. unchanged _ _ old e;
+      residue_left = λ M a x old h. let d = ((ostrowski.promised).residue_answers M a x).found (a * x % M) in rw (d.1 (h, refl)) refl;
+      divide_unchanged = λ M a t n old e. unchanged _ _ old e;
+      divide_left = λ M a t old h. left_holds _ (λ x. (x < period M a) × (a * x % M ≡ t)) old (((ostrowski.promised).divide_answers M a t).shown h).1;
       clear_is_1 = refl;
       possible_is_0 = refl;
-      regular_accepted = λ M a b N w. through (regular_number (segment M a b N w) _) (accepts (segments.checks (segment M a b N w)) (omega arith));
-      regular_refused = λ M a b N w n. through (regular_number (segment M a b N w) _) (refuses (segments.checks (segment M a b N w)) n);
-      regular_unchanged = regular_unchanged;
+      regular_accepted = λ M a b N w. by_zero (segments.checks (segment M a b N w)) _ (segments_named (segment M a b N w));
+      regular_refused = λ M a b N w. by_number (segments.checks (segment M a b N w)) _ (segments_named (segment M a b N w));
+      regular_unchanged = λ M a b N w n old e. unchanged _ _ old e;
       regular_numbers = λ r old. refl;
-      fine_accepted = λ M a b N w. through (fine_number (segment M a b N w) _) (accepts (segments.checks (segment M a b N w)) (omega arith));
-      fine_refused = λ M a b N w n. through (fine_number (segment M a b N w) _) (refuses (segments.checks (segment M a b N w)) n);
-      fine_unchanged = fine_unchanged;
+      fine_accepted = λ M a b N w. by_zero (segments.checks (segment M a b N w)) _ (segments_named (segment M a b N w));
+      fine_refused = λ M a b N w. by_number (segments.checks (segment M a b N w)) _ (segments_named (segment M a b N w));
+      fine_unchanged = λ M a b N w n old e. unchanged _ _ old e;
       fine_numbers = λ f old. refl;
       scan_accepted = λ M a b N w list values.
-          through (scan_number_is (segment M a b N w) _) (accepts (scan_checks (segment M a b N w) (length list) (length values)) (omega arith));
+          by_zero (scan_checks (segment M a b N w) (length list) (length values)) _ (scans_named (segment M a b N w) (length list) (length values));
       scan_refused = λ M a b N w n list values.
-          through (scan_number_is (segment M a b N w) _) (refuses (scan_checks (segment M a b N w) (length list) (length values)) n);
-      scan_unchanged = scan_unchanged;
+          by_number (scan_checks (segment M a b N w) (length list) (length values)) _ (scans_named (segment M a b N w) (length list) (length values)) n;
+      scan_unchanged = λ M a b N w n list values old e.
+          let s = segment M a b N w in
+          let all = scans_named s (length list) (length values) in
+          let cs = scan_checks s (length list) (length values) in
+          (unchanged _ _ old e, kept cs _ _ list all e, kept cs _ _ values all e);
       scan_number = λ n old. refl;
       domain_is = λ o M c0 c1 s N w. refl;
-      domain_accepted = λ d list values. through (domain_number_is (centred_of d) _) (accepts (domain_checks d (length list) (length values)) (omega arith));
-      domain_refused = λ d n list values. through (domain_number_is (centred_of d) _) (refuses (domain_checks d (length list) (length values)) n);
-      domain_unchanged = domain_unchanged;
-      domain_marks = domain_marks;
+      domain_accepted = λ d list values. by_zero (domain_checks d (length list) (length values)) _ (domains_named d (length list) (length values));
+      domain_refused = λ d n list values. by_number (domain_checks d (length list) (length values)) _ (domains_named d (length list) (length values)) n;
+      domain_unchanged = λ d n marks list values searched e.
+          let all = domains_named d (length list) (length values) in
+          let cs = domain_checks d (length list) (length values) in
+          (kept cs _ _ marks all e, kept cs _ _ list all e, kept cs _ _ values all e, unchanged _ _ searched e);
+      domain_marks = λ d marks list values e.
+          unrefused_new _ marks (sym (failing_number (domain_checks d (length list) (length values)) _ (domains_named d (length list) (length values))) ∙ e);
       domain_numbers = λ v n searched. refl;
     }

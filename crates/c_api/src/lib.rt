@@ -4,10 +4,11 @@
 #![tactic(auto)]
 
 ghost use Rattle.std.specs.Prelude.{◌≡◌, length};
+ghost use Rattle.numbers.specs.Refusals.{number_in};
 ghost use Rattle.expansion.specs.Answer.{answer};
-ghost use Rattle.ostrowski.specs.Answer.{digits_answer, residue_answer, divide_answer, refusal_of};
-ghost use Rattle.segment.specs.Answer.{regular_answer, fine_answer, regular_refusal, fine_refusal};
-ghost use Rattle.domain.specs.Answer.{scan_answer, scan_list_after, scan_values_after, scan_refusal, domain_answer, domain_refusal, marks_after, list_after, values_after};
+ghost use Rattle.ostrowski.specs.Answer.{digits_answer, residue_answer, divide_answer};
+ghost use Rattle.segment.specs.Answer.{regular_answer, fine_answer};
+ghost use Rattle.domain.specs.Answer.{scan_answer, scan_list_after, scan_values_after, domain_answer, marks_after, list_after, values_after};
 ghost use Rattle.range.specs.Range.{start_of, count_of};
 ghost use Rattle.c_api.specs.Memory.{memory, Delivered, digits_memory, count_memory, number_memory, verdict_number, regular_memory, fine_memory, scan_memory, domain_of, domain_memory};
 
@@ -25,20 +26,19 @@ pub extern "C" fn geyserdish_expand(
         (memory remainders.old denominators.old quotients.old last.old)
         (memory remainders.new denominators.new quotients.new last.new) }
 {
-    let answer = expansion::expand(modulus, step);
-    let refusal = answer.refusal;
-    if refusal != 0 {
-        return refusal;
+    match expansion::expand(modulus, step) {
+        Err(refusal) => u32::from(refusal),
+        Ok(table) => {
+            let r = table.remainders;
+            *remainders = r;
+            let d = table.denominators;
+            *denominators = d;
+            let q = table.quotients;
+            *quotients = q;
+            *last = table.last as u64;
+            0
+        }
     }
-    let table = answer.table;
-    let r = table.remainders;
-    *remainders = r;
-    let d = table.denominators;
-    *denominators = d;
-    let q = table.quotients;
-    *quotients = q;
-    *last = table.last as u64;
-    0
 }
 
 // ostrowski::digits: returns 0 or the refusal. The digits, and how many they are, are left as they were on a refusal.
@@ -50,19 +50,19 @@ pub extern "C" fn geyserdish_digits(
     digits: &mut [u64; 88],
     count: &mut u64,
 ) -> u32
-    ensures returned { result ≡ (digits_answer modulus step argument).refusal }
+    ensures returned { result ≡ number_in (digits_answer modulus step argument) }
     ensures digits_after { digits.new ≡ digits_memory (digits_answer modulus step argument) digits.old }
     ensures count_after { count.new ≡ count_memory (digits_answer modulus step argument) count.old }
 {
-    let answer = ostrowski::digits(modulus, step, argument);
-    let number = answer.refusal;
-    if number != 0 {
-        return number;
+    match ostrowski::digits(modulus, step, argument) {
+        Err(refusal) => u32::from(refusal),
+        Ok(found) => {
+            let d = found.digits;
+            *digits = d;
+            *count = found.count as u64;
+            0
+        }
     }
-    let d = answer.digits;
-    *digits = d;
-    *count = answer.count as u64;
-    0
 }
 
 // ostrowski::residue: returns 0 or the refusal. The residue is left as it was on a refusal.
@@ -73,12 +73,12 @@ pub extern "C" fn geyserdish_residue(
     argument: u64,
     residue: &mut u64,
 ) -> u32
-    ensures returned { result ≡ refusal_of (residue_answer modulus step argument) }
+    ensures returned { result ≡ number_in (residue_answer modulus step argument) }
     ensures residue_after { residue.new ≡ number_memory (residue_answer modulus step argument) residue.old }
 {
     match ostrowski::residue(modulus, step, argument) {
-        ostrowski::NumberAnswer::Refused(number) => number,
-        ostrowski::NumberAnswer::Found(number) => {
+        Err(refusal) => u32::from(refusal),
+        Ok(number) => {
             *residue = number;
             0
         }
@@ -88,12 +88,12 @@ pub extern "C" fn geyserdish_residue(
 // ostrowski::divide: returns 0 or the refusal. The argument is left as it was on a refusal.
 #[unsafe(no_mangle)]
 pub extern "C" fn geyserdish_divide(modulus: u64, step: u64, target: u64, argument: &mut u64) -> u32
-    ensures returned { result ≡ refusal_of (divide_answer modulus step target) }
+    ensures returned { result ≡ number_in (divide_answer modulus step target) }
     ensures argument_after { argument.new ≡ number_memory (divide_answer modulus step target) argument.old }
 {
     match ostrowski::divide(modulus, step, target) {
-        ostrowski::NumberAnswer::Refused(number) => number,
-        ostrowski::NumberAnswer::Found(number) => {
+        Err(refusal) => u32::from(refusal),
+        Ok(number) => {
             *argument = number;
             0
         }
@@ -111,19 +111,25 @@ pub extern "C" fn geyserdish_regular_search(
     window: u64,
     shown: &mut [u64; 5],
 ) -> u32
-    ensures returned { result ≡ regular_refusal (regular_answer modulus step start count window) }
+    ensures returned { result ≡ number_in (regular_answer modulus step start count window) }
     ensures shown_after { shown.new ≡ regular_memory (regular_answer modulus step start count window) shown.old }
 {
-    match segment::regular_search(modulus, step, start, count, window) {
-        segment::RegularAnswer::Refused(number) => number,
-        segment::RegularAnswer::Shown(found) => {
-            let verdict = found.verdict;
+    let segment = segment::Segment {
+        modulus,
+        step,
+        start,
+        count,
+        window,
+    };
+    match segment::regular_search(segment) {
+        Err(refusal) => u32::from(refusal),
+        Ok(found) => {
             *shown = [
                 found.count,
                 found.quotients as u64,
                 found.distance,
                 found.argument,
-                number_of(verdict),
+                number_of(found.verdict),
             ];
             0
         }
@@ -140,20 +146,26 @@ pub extern "C" fn geyserdish_fine_search(
     window: u64,
     shown: &mut [u64; 6],
 ) -> u32
-    ensures returned { result ≡ fine_refusal (fine_answer modulus step start count window) }
+    ensures returned { result ≡ number_in (fine_answer modulus step start count window) }
     ensures shown_after { shown.new ≡ fine_memory (fine_answer modulus step start count window) shown.old }
 {
-    match segment::fine_search(modulus, step, start, count, window) {
-        segment::FineAnswer::Refused(number) => number,
-        segment::FineAnswer::Shown(found) => {
-            let verdict = found.verdict;
+    let segment = segment::Segment {
+        modulus,
+        step,
+        start,
+        count,
+        window,
+    };
+    match segment::fine_search(segment) {
+        Err(refusal) => u32::from(refusal),
+        Ok(found) => {
             *shown = [
                 found.count,
                 found.index as u64,
                 found.part,
                 found.distance,
                 found.argument,
-                number_of(verdict),
+                number_of(found.verdict),
             ];
             0
         }
@@ -173,14 +185,21 @@ pub extern "C" fn geyserdish_scan_segment(
     values: &mut [u64],
     listed: &mut u64,
 ) -> u32
-    ensures returned { result ≡ scan_refusal (scan_answer modulus step start count window (length list.old) (length values.old)) }
+    ensures returned { result ≡ number_in (scan_answer modulus step start count window (length list.old) (length values.old)) }
     ensures list_after { list.new ≡ scan_list_after modulus step start count window (length values.old) list.old }
     ensures values_after { values.new ≡ scan_values_after modulus step start count window (length list.old) values.old }
     ensures listed_after { listed.new ≡ scan_memory (scan_answer modulus step start count window (length list.old) (length values.old)) listed.old }
 {
-    match domain::scan_segment(modulus, step, start, count, window, list, values) {
-        domain::ScanAnswer::Refused(number) => number,
-        domain::ScanAnswer::Listed(number) => {
+    let segment = segment::Segment {
+        modulus,
+        step,
+        start,
+        count,
+        window,
+    };
+    match domain::scan_segment(segment, list, values) {
+        Err(refusal) => u32::from(refusal),
+        Ok(number) => {
             *listed = number as u64;
             0
         }
@@ -204,25 +223,25 @@ pub extern "C" fn geyserdish_search_domain(
     marks: &mut [u8; 8],
     searched: &mut [u64; 2],
 ) -> u32
-    ensures returned { result ≡ domain_refusal (domain_answer (domain_of origin modulus value slope curve count window) (length list.old) (length values.old)) }
+    ensures returned { result ≡ number_in (domain_answer (domain_of origin modulus value slope curve count window) (length list.old) (length values.old)) }
     ensures list_after { list.new ≡ list_after (domain_of origin modulus value slope curve count window) (length values.old) list.old }
     ensures values_after { values.new ≡ values_after (domain_of origin modulus value slope curve count window) (length list.old) values.old }
     ensures marks_after { marks.new ≡ marks_after (domain_of origin modulus value slope curve count window) (length list.old) (length values.old) marks.old }
     ensures searched_after { searched.new ≡ domain_memory (domain_answer (domain_of origin modulus value slope curve count window) (length list.old) (length values.old)) searched.old }
 {
     let domain = domain::Domain {
-        origin: origin,
-        modulus: modulus,
-        value: value,
-        slope: slope,
-        curve: curve,
-        count: count,
-        window: window,
+        origin,
+        modulus,
+        value,
+        slope,
+        curve,
+        count,
+        window,
     };
     match domain::search_domain(domain, marks, list, values) {
-        domain::DomainAnswer::Refused(number) => number,
-        domain::DomainAnswer::Searched { first, listed } => {
-            *searched = [number_of(first), listed as u64];
+        Err(refusal) => u32::from(refusal),
+        Ok(found) => {
+            *searched = [number_of(found.first), found.listed as u64];
             0
         }
     }

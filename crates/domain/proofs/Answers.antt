@@ -2,15 +2,20 @@
 use mathlib.Core.Path.{◌≡◌, refl, sym, ◌∙◌, ap, ap₂}
 use mathlib.Core.List.{List, [], ◌∷◌, ◌++◌, map}
 use mathlib.Core.Logic.{◌↔◌, inl, ⊎_elim, by_cases}
-use Prim.Native.Nat.{ℕ, zero, suc, ◌+◌, ◌-◌, ◌%◌, ◌^◌, ◌≤◌, ◌<◌, min}
+use Prim.Native.Nat.{ℕ, ◌+◌, ◌-◌, ◌%◌, ◌^◌, ◌≤◌, ◌<◌, min}
 use native.Mathlib.Nat.{zero-add, sub-zero, mod-lt, mod-eq_of_lt, mod-eq-sub-mod}
 use native.Mathlib.Decide.{dec_lt, ℕ_discrete}
 use native.Mathlib.Omega.{arith}
 use lib.ListN.{length, replicate, length-map}
 use lib.Seq.{sets}
-use Rattle.numbers.specs.Checklist.{first_failing, unless_refused}
+use Rattle.numbers.specs.Checklist.{conditions, first_failing, unless_refused}
 use Rattle.numbers.specs.Lists.{overwrite_front}
-use Rattle.numbers.proofs.Checklists.{accepts, accepted, refused, gives, first_of_two, second_of_two, neither_refuses, refused_old}
+use Rattle.std.proofs.Common.{Result, Ok, Err, inr}
+use Rattle.numbers.specs.Refusals.{named, IsNamed, outcome, tested}
+use Rattle.numbers.specs.declared.refusals.Refusal.{Refusal}
+use Rattle.numbers.specs.declared.refusals.Refusal.TheVariants as refusals
+use Rattle.numbers.proofs.Outcomes.{not_refused, refused_alike, refused_first, outcome_refused}
+use Rattle.numbers.proofs.Checklists.{AllNumbers, accepts, accepted, gives, first_of_two, second_of_two, neither_refuses, refused_old}
 use Rattle.numbers.proofs.Remainders.{difference_within, difference_around}
 use Rattle.numbers.proofs.Buffers.{written_front}
 use Rattle.expansion.specs.Reached.Search.{regular}
@@ -23,21 +28,20 @@ use Rattle.segment.proofs.Promises as segment_promises
 use Rattle.parabola.specs.Parabola.{Parabola, InRange, value_at, centred, hard_list, covering, line}
 use Rattle.parabola.proofs.Laws.{positive}
 use Rattle.parabola.proofs.Promises as parabola_promises
-use Rattle.arc.specs.Arc.{parabola, arc_verdict}
+use Rattle.arc.specs.Arc.{parabola}
 use Rattle.arc.specs.Arc as arc
 use Rattle.arc.specs.declared.Arc.{Arc}
 use Rattle.arc.proofs.Promises as arc_promises
 use Rattle.domain.specs.Domain.{parabola_of, centred_of, hard_arguments, hard_values, covering_of, Searchable, Accepted}
 use Rattle.domain.specs.Scan.{listed_from, lowered, lowered_values}
 use Rattle.domain.specs.Phases.{marks_by, report}
-use Rattle.domain.specs.Answer.{room, origin_checks, own_checks, domain_number, answer_with, domain_answer, marks_after, list_after, values_after, too_few, marks_with, list_with, values_with, hard_residues, scan_number, scan_answer_with}
+use Rattle.domain.specs.Answer.{room, origin_checks, own_checks, domain_checks, domain_number, found, answer_with, domain_answer, marks_after, list_after, values_after, too_few, marks_with, list_with, values_with, hard_residues, scan_checks, scan_number}
 use Rattle.domain.specs.declared.Domain.{Domain}
-use Rattle.domain.specs.declared.DomainAnswer.{DomainAnswer}
-use Rattle.domain.specs.declared.DomainAnswer.TheVariants as domain_variants
-use Rattle.domain.specs.declared.ScanAnswer.{ScanAnswer}
-use Rattle.domain.specs.declared.ScanAnswer.TheVariants as scan_variants
+use Rattle.domain.specs.declared.Searched.{Searched}
+use Rattle.domain.specs.declared.marks.Mark.{Mark}
+use Rattle.domain.specs.declared.marks.Mark.TheVariants as mark
 use Rattle.domain.specs.declared.phases.Report.{Report}
-use Rattle.domain.proofs.Parts.{none_listed, otherwise, verdict_is}
+use Rattle.domain.proofs.Parts.{none_listed, otherwise}
 
 -- ---- which domains are accepted
 
@@ -66,9 +70,18 @@ Room xs m n = (length xs ≤ m) × (length xs ≤ n)
 room_iff : (xs : List ℕ) (m n : ℕ) → (first_failing (room xs m n) ≡ 0) ↔ Room xs m n
 room_iff xs m n = let r = accepts (room xs m n) (omega arith) in (λ e. (r.0 e).0, λ h. r.1 (h, tt))
 
--- 7 where the shorter of them has not
-room_refused : (xs : List ℕ) (m n : ℕ) → min m n < length xs → first_failing (room xs m n) ≡ 7
-room_refused xs m n h = refused (room xs m n) {n = 7} (inl (refl, λ l. omega (arith, h, l.0, l.1)))
+-- where the shorter of them has not, that is refused
+room_refused : {A : Type 0} (xs : List ℕ) (m n : ℕ) (a : A) → min m n < length xs → outcome (first_failing (room xs m n)) a ≡ Err refusals.Room
+room_refused xs m n a h = sym (outcome_refused (room xs m n) refusals.Room a (inl (refl, λ l. omega (arith, h, l.0, l.1))))
+
+-- each number of a checklist is that of a refusal
+pub domain_named : (d : Domain) (m n : ℕ) → AllNumbers IsNamed (conditions (domain_checks d m n))
+unfolding named
+domain_named d m n = (refl, (refl, (refl, (refl, (refl, (refl, (refl, (refl, tt))))))))
+
+pub scan_named : (s : Segment) (m n : ℕ) → AllNumbers IsNamed (conditions (scan_checks s m n))
+unfolding named
+scan_named s m n = (refl, (refl, (refl, (refl, (refl, (refl, tt))))))
 
 pub number_accepts : (d : Domain) (m n : ℕ) → (domain_number d m n ≡ 0) ↔ (Accepted d × Room (hard_arguments d) m n)
 unfolding domain_number
@@ -103,30 +116,30 @@ scan_accepts s m n =
 -- ---- what a number makes of an answer and of the buffers
 
 -- the answer, the marks, the list and the values
-abbrev Leaves : (number origin raise : ℕ) → Parabola → (old_marks old old_values : List ℕ) → (answer : DomainAnswer) → (new_marks new new_values : List ℕ) → Type 0
+abbrev Leaves : (number origin raise : ℕ) → Parabola → (old_marks : List Mark) → (old old_values : List ℕ) → (answer : Result Searched Refusal)
+    → (new_marks : List Mark) → (new new_values : List ℕ) → Type 0
 Leaves n origin raise p old_marks old old_values answer new_marks new new_values =
     (answer ≡ answer_with n p)
     × ((new_marks ≡ marks_with n p old_marks) × ((new ≡ list_with n origin p old) × (new_values ≡ values_with n raise p old_values)))
 
-refused_with : (n origin raise : ℕ) (p : Parabola) (old_marks old old_values : List ℕ) → (n ≡ 0 → ⊥)
-    → Leaves n origin raise p old_marks old old_values (domain_variants.Refused n) old_marks old old_values
-unfolding answer_with unless_refused
-refused_with zero origin raise p old_marks old old_values h = absurd (h refl)
-refused_with (suc n) origin raise p old_marks old old_values h = (refl, (refl, (refl, refl)))
+-- a number that refuses leaves a buffer as it was
+kept : {A : Type 0} (n : ℕ) (a : A) {r : Refusal} → outcome n a ≡ Err r → {B : Type 0} (new old : B) → old ≡ unless_refused n new old
+kept n a e new old = sym (refused_old n new old (λ z. not_refused a (rw z at e)))
 
 -- ---- phases 2 and 3
 
-module _ (p : Parabola) (origin raise : ℕ) (old_marks old old_values : List ℕ) where
+module _ (p : Parabola) (origin raise : ℕ) (old_marks : List Mark) (old old_values : List ℕ) where
   pub parts_refused : min (length old) (length old_values) < length (hard_list p)
-      → Leaves (too_few p (length old) (length old_values)) origin raise p old_marks old old_values (domain_variants.Refused 7) old_marks old old_values
+      → Leaves (too_few p (length old) (length old_values)) origin raise p old_marks old old_values (Err refusals.Room) old_marks old old_values
   unfolding too_few
   parts_refused h =
-      rw (room_refused (hard_list p) (length old) (length old_values) h) (refused_with 7 origin raise p old_marks old old_values (λ z. omega (arith, z)))
+      let e = room_refused (hard_list p) (length old) (length old_values) (found p) h in
+      (sym e, (kept _ _ e _ old_marks, (kept _ _ e _ old, kept _ _ e _ old_values)))
 
   pub parts_searched : verdict regular (covering p) ≡ Possible → Room (hard_list p) (length old) (length old_values) → {r : Report} → r ≡ report p
       → {new new_values : List ℕ} → (new ≡ overwrite_front (listed_from origin p) old) × (new_values ≡ overwrite_front (lowered_values raise p) old_values)
-      → Leaves (too_few p (length old) (length old_values)) origin raise p old_marks old old_values (domain_variants.Searched Possible r.total) r.marks new new_values
-  unfolding too_few answer_with unless_refused report marks_by
+      → Leaves (too_few p (length old) (length old_values)) origin raise p old_marks old old_values (Ok (record { first = Possible; listed = r.total })) r.marks new new_values
+  unfolding too_few outcome unless_refused report marks_by
   parts_searched v h e f =
       rw (accepted (room (hard_list p) (length old) (length old_values)) (h, tt), v, e, f.0, f.1) (refl, (refl, (refl, refl)))
 
@@ -152,38 +165,46 @@ values_lowered d a =
     ∙ raised_lowered d.modulus (d.window - 1) (value_at (parabola_of d) x) (omega (arith, a.window_low, a.window_high)) (v.in_range x)) j)
 
 -- what the contract says
-abbrev Answered : Domain → (old_marks old old_values : List ℕ) → (answer : DomainAnswer) → (new_marks new new_values : List ℕ) → Type 0
+abbrev Answered : Domain → (old_marks : List Mark) → (old old_values : List ℕ) → (answer : Result Searched Refusal) → (new_marks : List Mark)
+    → (new new_values : List ℕ) → Type 0
 Answered d old_marks old old_values answer new_marks new new_values =
     (answer ≡ domain_answer d (length old) (length old_values))
     × ((new_marks ≡ marks_after d (length old) (length old_values) old_marks)
     × ((new ≡ list_after d (length old_values) old) × (new_values ≡ values_after d (length old) old_values)))
 
-module _ (d : Domain) (old_marks old old_values : List ℕ) where
+module _ (d : Domain) (old_marks : List Mark) (old old_values : List ℕ) where
   -- a refusal before anything is searched
-  own_refused : {n : ℕ} → first_failing (own_checks d) ≡ n → (n ≡ 0 → ⊥)
-      → Answered d old_marks old old_values (domain_variants.Refused n) old_marks old old_values
+  own_refused : {r : Refusal} → tested (first_failing (own_checks d)) ≡ Err r → Answered d old_marks old old_values (Err r) old_marks old old_values
   unfolding domain_answer marks_after list_after values_after domain_number
-  own_refused {n} e h =
-      rw (first_of_two (own_checks d) (room (hard_arguments d) (length old) (length old_values)) e h) (
-        (refused_with n 0 0 (centred_of d) old_marks old old_values h).0,
-        (sym (refused_old n _ old_marks h), (sym (refused_old n _ old h), sym (refused_old n _ old_values h))),
-      )
+  own_refused e =
+      let f = refused_first (own_checks d) (room (hard_arguments d) (length old) (length old_values)) tt e in
+      (sym (refused_alike _ tt _ f), (kept _ _ f _ old_marks, (kept _ _ f _ old, kept _ _ f _ old_values)))
 
   -- of the parabola
-  pub domain_refused : {n : ℕ} → n ≡ arc.refusal (parabola_of d) → (n ≡ 0 → ⊥)
-      → Answered d old_marks old old_values (domain_variants.Refused n) old_marks old old_values
+  pub domain_refused : {r : Refusal} → tested (arc.refusal (parabola_of d)) ≡ Err r
+      → Answered d old_marks old old_values (Err r) old_marks old old_values
   unfolding arc.refusal
-  domain_refused e h = own_refused (first_of_two (arc.checks (parabola_of d)) _ (sym e) h) h
+  domain_refused e = own_refused (refused_first (arc.checks (parabola_of d)) (origin_checks d) tt e)
 
   -- of the origin
   pub origin_refused : Searchable d → 2 ^ 52 < d.origin
-      → Answered d old_marks old old_values (domain_variants.Refused 11) old_marks old old_values
-  unfolding arc.refusal
+      → Answered d old_marks old old_values (Err refusals.Origin) old_marks old old_values
   origin_refused a h =
       own_refused
-      (second_of_two (arc.checks (parabola_of d)) _ ((accepts (arc.checks (parabola_of d)) (omega arith)).0 ((searchable_iff d).1 a))
-      ∙ refused _ {n = 11} (inl (refl, λ l. omega (arith, l))))
-      (λ z. omega (arith, z))
+      (sym (outcome_refused (own_checks d) refusals.Origin tt
+      (inr (
+        a.unit_within,
+        inr (
+          a.slope_below,
+          inr (
+            a.value_below,
+            inr (
+              (a.count_low, a.count_high),
+              inr ((a.window_low, a.window_high), inr (a.size_small, inl (refl, λ l. omega (arith, l)))),
+            ),
+          ),
+        ),
+      ))))
 
   module _ (a : Accepted d) where
     -- an accepted one can be refused by 7 alone
@@ -194,40 +215,31 @@ module _ (d : Domain) (old_marks old old_values : List ℕ) where
         ((accepts (own_checks d) (omega arith)).0 ((accepted_iff d).1 a))
 
     -- phase 1 clears it
-    pub domain_cleared : {b : Arc} → parabola b ≡ centred_of d → arc_verdict regular b ≡ Clear
-        → Answered d old_marks old old_values (domain_variants.Searched Clear 0) (replicate 8 0) old old_values
-    unfolding domain_answer marks_after list_after values_after too_few answer_with unless_refused marks_by overwrite_front
-    domain_cleared {b} e c =
-        let r : InRange (parabola b) = rw e (searched_in_range d a.searchable) in
-        let v : verdict regular (covering_of d) ≡ Clear = ap (λ (p : Parabola). verdict regular (covering p)) (sym e) ∙ verdict_is b r regular c in
+    pub domain_cleared : {p : Parabola} → p ≡ centred_of d → verdict regular (covering p) ≡ Clear
+        → Answered d old_marks old old_values (Ok (record { first = Clear; listed = 0 })) (replicate 8 mark.Unseen) old old_values
+    unfolding domain_answer marks_after list_after values_after too_few outcome unless_refused marks_by overwrite_front
+    domain_cleared e c =
+        let v : verdict regular (covering_of d) ≡ Clear = ap (λ (p : Parabola). verdict regular (covering p)) (sym e) ∙ c in
         let nothing : hard_arguments d ≡ [] = none_listed regular (searched_in_range d a.searchable) v in
         let none : length (hard_arguments d) ≡ 0 = ap length nothing in
         rw (number_is, accepted (room (hard_arguments d) (length old) (length old_values)) ((omega arith, omega arith), tt), v, nothing) (refl, (refl, (refl, refl)))
 
-    -- or it does not
-    pub searched_requires : {b : Arc} → parabola b ≡ centred_of d → arc_verdict regular b ≡ Possible
-        → InRange (parabola b) × ((verdict regular (covering (parabola b)) ≡ Possible) × ((d.origin ≤ 2 ^ 52) × (d.window - 1 < b.modulus)))
-    unfolding centred
-    searched_requires {b} e c =
-        let r : InRange (parabola b) = rw e (searched_in_range d a.searchable) in
-        let unit : b.modulus ≡ d.modulus = ap (λ (p : Parabola). p.unit) e in
-        (r, (verdict_is b r regular c, (a.origin_within, omega (arith, a.searchable.window_low, a.searchable.window_high))))
-
-    -- it does not where every value is hard: then the first argument is
-    pub never_cleared : {b : Arc} → parabola b ≡ centred_of d → b.highest ≡ d.modulus - 1 → arc_verdict regular b ≡ Possible
+    -- or it does not: so it is where every value is hard, as then the first argument is
+    pub never_cleared : {b : Arc} → parabola b ≡ centred_of d → b.highest ≡ d.modulus - 1 → verdict regular (covering (parabola b)) ≡ Possible
     unfolding centred
     never_cleared {b} e h =
         let r : InRange (parabola b) = rw e (searched_in_range d a.searchable) in
         let unit : b.modulus ≡ d.modulus = ap (λ (p : Parabola). p.unit) e in
         let below = ((parabola_promises.promised).values (parabola b) (positive r)).in_range 0 in
-        otherwise _ (λ c. (((arc_promises.promised).arcs b).clear regular c).1 0 (r.count_low, omega (arith, below, unit, h)))
+        otherwise _ (λ c. ((arc_promises.promised).searched _ r).cleared regular c 0 (r.count_low, omega (arith, below, unit, h)))
 
     -- phases 2 and 3 search it
-    pub domain_searched : {p : Parabola} → p ≡ centred_of d → {answer : DomainAnswer} {new_marks new new_values : List ℕ}
-        → Leaves (too_few p (length old) (length old_values)) d.origin (d.window - 1) p old_marks old old_values answer new_marks new new_values
+    pub domain_searched : {p : Parabola} {raise origin : ℕ} → p ≡ centred_of d → raise ≡ d.window - 1 → origin ≡ d.origin
+        → {answer : Result Searched Refusal} {new_marks : List Mark} {new new_values : List ℕ}
+        → Leaves (too_few p (length old) (length old_values)) origin raise p old_marks old old_values answer new_marks new new_values
         → Answered d old_marks old old_values answer new_marks new new_values
     unfolding domain_answer marks_after list_after values_after
-    domain_searched e l = rw number_is (rw (e, values_lowered d a.searchable) at l)
+    domain_searched e f g l = rw number_is (rw (e, f, g, values_lowered d a.searchable) at l)
 
 -- ---- scans
 
@@ -236,17 +248,11 @@ pub line_in_range : {s : Segment} → segment.Accepted s → InRange (line s)
 line_in_range {s} c = omega (arith, mod-lt (s.unit - s.step) {m = s.unit} (omega (arith, c.start_below)), c)
 
 -- the answer, the list and the values
-abbrev ScanLeaves : (number : ℕ) → Segment → (old old_values : List ℕ) → (answer : ScanAnswer) → (new new_values : List ℕ) → Type 0
+abbrev ScanLeaves : (number : ℕ) → Segment → (old old_values : List ℕ) → (answer : Result ℕ Refusal) → (new new_values : List ℕ) → Type 0
 ScanLeaves n s old old_values answer new new_values =
-    (answer ≡ scan_answer_with n s)
+    (answer ≡ outcome n (length (geometry.hard_list s)))
     × ((new ≡ unless_refused n (overwrite_front (geometry.hard_list s) old) old)
     × (new_values ≡ unless_refused n (overwrite_front (hard_residues s) old_values) old_values))
-
-scan_refused_with : (n : ℕ) (s : Segment) (old old_values : List ℕ) → (n ≡ 0 → ⊥)
-    → ScanLeaves n s old old_values (scan_variants.Refused n) old old_values
-unfolding scan_answer_with unless_refused
-scan_refused_with zero s old old_values h = absurd (h refl)
-scan_refused_with (suc n) s old old_values h = (refl, (refl, refl))
 
 -- nothing is added
 add_nothing : (xs : List ℕ) → map (λ (x : ℕ). 0 + x) xs ≡ xs
@@ -266,11 +272,12 @@ residues_as_they_are {s} c =
 
 module _ (s : Segment) (old old_values : List ℕ) where
   -- a refusal before anything is scanned
-  pub scan_refused : {n : ℕ} → n ≡ segment.refusal s → (n ≡ 0 → ⊥)
-      → ScanLeaves (scan_number s (length old) (length old_values)) s old old_values (scan_variants.Refused n) old old_values
+  pub scan_refused : {r : Refusal} → tested (segment.refusal s) ≡ Err r
+      → ScanLeaves (scan_number s (length old) (length old_values)) s old old_values (Err r) old old_values
   unfolding scan_number segment.refusal
-  scan_refused {n} e h =
-      rw (first_of_two (segment.checks s) (room (geometry.hard_list s) (length old) (length old_values)) (sym e) h) (scan_refused_with n s old old_values h)
+  scan_refused e =
+      let f = refused_first (segment.checks s) (room (geometry.hard_list s) (length old) (length old_values)) tt e in
+      (sym (refused_alike _ tt _ f), (kept _ _ f _ old, kept _ _ f _ old_values))
 
   module _ (c : segment.Accepted s) where
     number_of_room : {n : ℕ} → first_failing (room (geometry.hard_list s) (length old) (length old_values)) ≡ n
@@ -282,15 +289,15 @@ module _ (s : Segment) (old old_values : List ℕ) where
         ∙ e
 
     pub scan_too_few : min (length old) (length old_values) < length (geometry.hard_list s)
-        → ScanLeaves (scan_number s (length old) (length old_values)) s old old_values (scan_variants.Refused 7) old old_values
+        → ScanLeaves (scan_number s (length old) (length old_values)) s old old_values (Err refusals.Room) old old_values
     scan_too_few h =
-        rw (number_of_room (room_refused (geometry.hard_list s) (length old) (length old_values) h))
-        (scan_refused_with 7 s old old_values (λ z. omega (arith, z)))
+        let e = room_refused (geometry.hard_list s) (length old) (length old_values) (length (geometry.hard_list s)) h in
+        rw (number_of_room refl) (sym e, (kept _ _ e _ old, kept _ _ e _ old_values))
 
     pub scan_listed : Room (geometry.hard_list s) (length old) (length old_values) → {n : ℕ} → n ≡ length (geometry.hard_list s) → {new new_values : List ℕ}
         → (new ≡ sets old 0 (listed_from 0 (line s))) × (new_values ≡ sets old_values 0 (lowered_values 0 (line s)))
-        → ScanLeaves (scan_number s (length old) (length old_values)) s old old_values (scan_variants.Listed n) new new_values
-    unfolding scan_answer_with unless_refused
+        → ScanLeaves (scan_number s (length old) (length old_values)) s old old_values (Ok n) new new_values
+    unfolding outcome unless_refused
     scan_listed h f g =
         let of_line = (parabola_promises.promised).lines s c.step_below in
         rw (number_of_room (accepted (room (geometry.hard_list s) (length old) (length old_values)) (h, tt)), f) (

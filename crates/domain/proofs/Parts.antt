@@ -5,12 +5,12 @@ use mathlib.Core.List.{List, [], map, map-map}
 use mathlib.Core.Logic.{by_cases}
 use Prim.Native.Nat.{ℕ, zero, suc, ◌+◌, ◌-◌, ◌≤◌, ◌<◌, min}
 use native.Mathlib.Nat.{add_assoc}
-use native.Mathlib.Decide.{dec_le, dec_lt}
+use native.Mathlib.Decide.{dec_le, dec_lt, ℕ_discrete}
 use native.Mathlib.Omega.{arith}
 use native.Mathlib.Numerals.{add-one}
 use lib.Dec.{ltb}
-use lib.ListN.{length, set, replicate, length-map, length-append}
-use lib.Seq.{sets}
+use lib.ListN.{length, get_or, set, replicate, length-map, length-append, length-set}
+use lib.Seq.{sets, get_or-set_same, get_or-set_other, ext_get_or}
 use mir.Val.{bool_byte}
 use borrow.Author.Tests.{lt-ltb, le-ltb}
 use Rattle.numbers.specs.Lists.{tabulate, joined, overwrite_front}
@@ -24,14 +24,16 @@ use Rattle.expansion.specs.Reached.Search.{fine}
 use Rattle.segment.specs.Search.{verdict}
 use Rattle.segment.specs.declared.Verdict.{Verdict}
 use Rattle.segment.specs.declared.Verdict.TheVariants.{Clear, Possible}
-use Rattle.parabola.specs.Parabola.{Parabola, InRange, triangle, value_at, slope_at, is_hard, hard_list, covering, continued, part, part_start, part_count}
+use Rattle.parabola.specs.Parabola.{Parabola, InRange, value_at, is_hard, hard_list, covering, continued, part, part_start, part_count}
 use Rattle.parabola.proofs.Promises.{promised}
 use Rattle.domain.specs.Scan.{listed_from, lowered, lowered_at, lowered_values}
 use Rattle.domain.specs.Phases.{mark_of, mark_with, part_mark, part_marks, hard_count, hard_counts, part_report, report}
-use Rattle.arc.specs.Arc.{parabola, point_answer, arc_verdict}
+use Rattle.arc.specs.Arc.{parabola, point}
 use Rattle.arc.specs.declared.Arc.{Arc}
-use Rattle.arc.specs.declared.PointAnswer.TheVariants.{Outside, At}
+use Rattle.arc.specs.declared.Point.{Point}
 use Rattle.arc.proofs.Promises as arc
+use Rattle.domain.specs.declared.marks.Mark.{Mark}
+use Rattle.domain.specs.declared.marks.Mark.TheVariants as mark
 use Rattle.domain.specs.declared.phases.PartReport.{PartReport}
 
 -- ---- where a part begins, and how long it is
@@ -45,29 +47,24 @@ one_more i rest =
 pub start_most : {N i : ℕ} → N ≤ 1048576 → i < 8 → part_start N i ≤ 1048576
 start_most {N} {i} most h = omega (arith, (promised.eight_parts N).pieces.within i (omega arith))
 
-module _ (a : Arc) (range : InRange (parabola a)) {i : ℕ} (h : i < 8) (some : 1 ≤ part_count a.count i) where
+module _ (a : Arc) {i : ℕ} (h : i < 8) (some : 1 ≤ part_count a.count i) where
   -- a part with arguments begins at one of the whole
-  begins_below : part_start a.count i < a.count
+  pub begins_below : part_start a.count i < a.count
   begins_below =
       let parts = promised.eight_parts a.count in
       omega (arith, parts.next i, parts.pieces.within (suc i) h, some)
 
-  pub begins_inside : point_answer a (part_start a.count i) ≡ Outside → ⊥
-  begins_inside e = (((arc.promised).arcs a).outside _).0 e range begins_below
-
-  part_point : point_answer a (part_start a.count i) ≡ At (part (parabola a) i).value (part (parabola a) i).slope
-  unfolding value_at slope_at triangle continued
-  part_point = ((arc.promised).arcs a).inside (part_start a.count i) range begins_below
+  -- and ends no later than that
+  pub ends_within : part_start a.count i + part_count a.count i ≤ a.count
+  ends_within =
+      let parts = promised.eight_parts a.count in
+      omega (arith, parts.next i, parts.pieces.within (suc i) h)
 
   -- and is made of the value and the slope there
-  pub part_made : {v s n : ℕ} → point_answer a (part_start a.count i) ≡ At v s → n ≡ part_count a.count i
-      → record { unit = a.modulus; value = v; slope = s; curve = read a.curve; count = n; window = suc a.highest } ≡ part (parabola a) i
+  pub part_made : InRange (parabola a) → {start n : ℕ} {t : Point} → start ≡ part_start a.count i → t ≡ point (parabola a) start → n ≡ part_count a.count i
+      → record { unit = a.modulus; value = t.value; slope = t.slope; curve = read a.curve; count = n; window = suc a.highest } ≡ part (parabola a) i
   unfolding continued
-  part_made {v} {s} e l =
-      let h = sym e ∙ part_point in
-      let f : v ≡ (part (parabola a) i).value = cc in
-      let g : s ≡ (part (parabola a) i).slope = cc in
-      rw (f, g, l, curve_read a.curve range.size_small)
+  part_made range e f l = rw (f, e, l, curve_read a.curve range.size_small)
 
 -- ---- one part
 
@@ -83,8 +80,8 @@ pub otherwise : (v : Verdict) → (v ≡ Clear → ⊥) → v ≡ Possible
 otherwise Clear h = absurd (h refl)
 otherwise Possible h = refl
 
--- its mark is 3 where it has no argument, and else by its verdict
-pub mark_empty : {n : ℕ} (v : Verdict) → n ≡ 0 → mark_with n v ≡ 3
+-- it is marked as empty where it has no argument, and else by its verdict
+pub mark_empty : {n : ℕ} (v : Verdict) → n ≡ 0 → mark_with n v ≡ mark.Empty
 unfolding mark_with
 mark_empty v e = rw e refl
 
@@ -94,23 +91,19 @@ mark_some zero v h = absurd (omega arith)
 mark_some (suc n) v h = refl
 
 -- what is found in a part without arguments
-pub empty_part : (p : Parabola) → InRange p → (i : ℕ) → part_count p.count i ≡ 0 → record { mark = 3; hard = 0 } ≡ part_report (part p i)
+pub empty_part : (p : Parabola) → InRange p → (i : ℕ) → part_count p.count i ≡ 0 → record { mark = mark.Empty; hard = 0 } ≡ part_report (part p i)
 unfolding part_report continued
 empty_part p range i e = rw (mark_empty (verdict fine (covering (part p i))) e, (promised.parts p range).nothing_listed i e)
 
-module _ (a : Arc) (range : InRange (parabola a)) where
-  -- the search of the covering segment has the arc's verdict
-  pub verdict_is : (k : Search) {v : Verdict} → arc_verdict k a ≡ v → verdict k (covering (parabola a)) ≡ v
-  verdict_is k e = sym (((arc.promised).arcs a).verdict_is k range) ∙ e
+module _ {p : Parabola} (range : InRange p) where
+  mark_is : {v : Verdict} → verdict fine (covering p) ≡ v → mark_with p.count (verdict fine (covering p)) ≡ mark_of v
+  mark_is e = mark_some _ _ range.count_low ∙ ap mark_of e
 
-  mark_is : {v : Verdict} → arc_verdict fine a ≡ v → mark_with a.count (verdict fine (covering (parabola a))) ≡ mark_of v
-  mark_is e = mark_some _ _ range.count_low ∙ ap mark_of (verdict_is fine e)
-
-  pub clear_part : arc_verdict fine a ≡ Clear → record { mark = 1; hard = 0 } ≡ part_report (parabola a)
+  pub clear_part : verdict fine (covering p) ≡ Clear → record { mark = mark.Clear; hard = 0 } ≡ part_report p
   unfolding part_report mark_of
-  clear_part e = rw (mark_is e, none_listed fine range (verdict_is fine e))
+  clear_part e = rw (mark_is e, none_listed fine range e)
 
-  pub possible_part : {n : ℕ} → arc_verdict fine a ≡ Possible → n ≡ length (hard_list (parabola a)) → record { mark = 2; hard = n } ≡ part_report (parabola a)
+  pub possible_part : {n : ℕ} → verdict fine (covering p) ≡ Possible → n ≡ length (hard_list p) → record { mark = mark.Possible; hard = n } ≡ part_report p
   unfolding part_report mark_of
   possible_part e h = rw (mark_is e, h)
 
@@ -143,17 +136,40 @@ module _ (p : Parabola) (i : ℕ) where
 -- ---- examining
 
 -- before the part i: the marks of those before it and how many hard arguments each has are written, and how many they have together is known
-pub record Examining (p : Parabola) (marks counts : List ℕ) (total i : ℕ) : Type 0 where
+pub record Examining (p : Parabola) (marks : List Mark) (counts : List ℕ) (total i : ℕ) : Type 0 where
   pub within : i ≤ 8
-  pub marking : Writing (part_marks p) (replicate 8 0) 0 (tabulate (part_mark p) (8 - i) i) marks i
+  pub eight : length marks ≡ 8
+  pub marking : (k : ℕ) → k < i → get_or marks k mark.Unseen ≡ part_mark p k
   pub counting : Writing (hard_counts p) (replicate 8 0) 0 (tabulate (hard_count p) (8 - i) i) counts i
   pub to_come : total + length (pieces_from p i) ≡ length (hard_list p)
 
-pub examine_first : {p : Parabola} → InRange p → Examining p (replicate 8 0) (replicate 8 0) 0 0
+pub examine_first : {p : Parabola} → InRange p → Examining p (replicate 8 mark.Unseen) (replicate 8 0) 0 0
 examine_first {p} d =
-    record { within = omega arith; marking = begin _ _ 0; counting = begin _ _ 0; to_come = omega (arith, ap length (promised.parts p d).lists) }
+    record {
+      within = omega arith;
+      eight = refl;
+      marking = λ k h. absurd (omega arith);
+      counting = begin _ _ 0;
+      to_come = omega (arith, ap length (promised.parts p d).lists);
+    }
 
-module _ {p : Parabola} {marks counts : List ℕ} {total i : ℕ} (e : Examining p marks counts total i) where
+-- eight marks that are those of the parts
+all_marks : (p : Parabola) {marks : List Mark} → length marks ≡ 8 → ((k : ℕ) → k < 8 → get_or marks k mark.Unseen ≡ part_mark p k) → marks ≡ part_marks p
+unfolding tabulate
+all_marks p {marks} long each = ext_get_or mark.Unseen marks (part_marks p) long (λ k h. each k (omega arith) ∙ by k (omega arith))
+  where
+    by : (k : ℕ) → k < 8 → part_mark p k ≡ get_or (part_marks p) k mark.Unseen
+    by zero h = refl
+    by (suc zero) h = refl
+    by (suc (suc zero)) h = refl
+    by (suc (suc (suc zero))) h = refl
+    by (suc (suc (suc (suc zero)))) h = refl
+    by (suc (suc (suc (suc (suc zero))))) h = refl
+    by (suc (suc (suc (suc (suc (suc zero)))))) h = refl
+    by (suc (suc (suc (suc (suc (suc (suc zero))))))) h = refl
+    by (suc (suc (suc (suc (suc (suc (suc (suc k)))))))) h = absurd (omega arith)
+
+module _ {p : Parabola} {marks : List Mark} {counts : List ℕ} {total i : ℕ} (e : Examining p marks counts total i) where
   pub examine_next : i < 8 → {r : PartReport} → r ≡ part_report (part p i)
       → Examining p (set marks i r.mark) (set counts i r.hard) (total + r.hard) (i + 1)
   unfolding part_report
@@ -161,7 +177,10 @@ module _ {p : Parabola} {marks counts : List ℕ} {total i : ℕ} (e : Examining
       rw (f, add-one i)
       (record {
         within = h;
-        marking = rw (add-one i) at (write_one (restate (tabulate_next (part_mark p) 8 i h) e.marking));
+        eight = length-set marks i (part_mark p i) ∙ e.eight;
+        marking = λ k l. by_cases (ℕ_discrete k i)
+            (λ s. rw s (get_or-set_same marks i (part_mark p i) mark.Unseen (omega (arith, h, e.eight))))
+            (λ n. get_or-set_other marks i k (part_mark p i) mark.Unseen n ∙ e.marking k (omega arith));
         counting = rw (add-one i) at (write_one (restate (tabulate_next (hard_count p) 8 i h) e.counting));
         to_come = omega (arith, e.to_come, pieces_length p i h);
       })
@@ -170,7 +189,7 @@ module _ {p : Parabola} {marks counts : List ℕ} {total i : ℕ} (e : Examining
   unfolding report tabulate
   examine_done h =
       let f : i ≡ 8 = omega (arith, e.within) in
-      let m : marks ≡ part_marks p = (done (rw f at e.marking)).1 in
+      let m : marks ≡ part_marks p = all_marks p e.eight (λ k l. e.marking k (omega arith)) in
       let c : counts ≡ hard_counts p = (done (rw f at e.counting)).1 in
       let t : total ≡ length (hard_list p) = omega (arith, rw (f, joined_none (piece p) 8) at e.to_come) in
       rw (m, c, t)

@@ -10,7 +10,12 @@ use Rattle.numbers.specs.Checklist.{first_failing, unless_refused}
 use Rattle.numbers.specs.Lists.{count_if, overwrite_front}
 use Rattle.numbers.specs.Promise.{Enumerates, BufferCorrect}
 use Rattle.numbers.proofs.Lists.{mapped_at}
-use Rattle.numbers.proofs.Checklists.{without_holding, gives, unrefused_new, refused_old}
+use Rattle.numbers.proofs.Checklists.{without_holding, unrefused_new, refused_old}
+use Rattle.std.proofs.Common.{Ok, Err}
+use Rattle.numbers.specs.Refusals.{number_of, outcome, number_in}
+use Rattle.numbers.specs.declared.refusals.Refusal.{Refusal}
+use Rattle.numbers.specs.declared.refusals.Refusal.TheVariants.{Window}
+use Rattle.numbers.proofs.Outcomes.{refusals_correct, not_refused, failing_number, number_positive, outcome_refuses}
 use Rattle.numbers.proofs.Selections.{enumerates_moved}
 use Rattle.numbers.proofs.Buffers.{front_correct, front_taken, front_ascends}
 use Rattle.expansion.specs.Reached.Search.{regular}
@@ -19,10 +24,9 @@ use Rattle.geometry.specs.Segment as geometry
 use Rattle.geometry.proofs.Promises as geometry_promises
 use Rattle.segment.specs.Accepted as segment
 use Rattle.segment.specs.Search.{verdict}
-use Rattle.segment.specs.declared.Verdict.{Verdict}
 use Rattle.segment.specs.declared.Verdict.TheVariants.{Clear}
 use Rattle.segment.proofs.Promises as segment_promises
-use Rattle.parabola.specs.Parabola.{Parabola, triangle, value_at, slope_at, hard_list, centred, covering, continued, part_count, part}
+use Rattle.parabola.specs.Parabola.{triangle, value_at, slope_at, centred, continued, part_count, part}
 use Rattle.parabola.specs.Promise.{CoveringBothCorrect}
 use Rattle.parabola.proofs.Laws.{positive}
 use Rattle.parabola.proofs.Promises as parabola
@@ -30,12 +34,13 @@ use Rattle.arc.specs.Arc as arcs
 use Rattle.arc.proofs.Promises as arc
 use Rattle.domain.specs.Domain.{parabola_of, centred_of, hard_arguments, listed_arguments, hard_values, covering_of, part_covering, Searchable, Accepted, with_origin}
 use Rattle.domain.specs.Scan.{next_point}
-use Rattle.domain.specs.Answer.{room, domain_checks, domain_number, answer_with, domain_answer, marks_of, marks_after, list_after, values_after, domain_refusal, domain_first, domain_count, hard_residues, scan_checks, scan_number, scan_answer_with, scan_answer, scan_list_after, scan_values_after, scan_refusal, scan_count}
-use Rattle.domain.specs.Promise.{ParabolaCorrect, ValueInNumbers, HardInNumbers, ListedInNumbers, BesideInNumbers, ValuesBeside, ResidueInSegment, HardInSegment, CoveringsCorrect, WithoutWindow, RefusedFor, ScanRefusedFor, MarksCorrect, DomainCorrect, OriginCorrect, ScanCorrect, Promised}
+use Rattle.domain.specs.Answer.{room, domain_checks, domain_number, found, answer_with, domain_answer, marks_of, marks_after, list_after, values_after, hard_residues, scan_checks, scan_number, scan_answer, scan_list_after, scan_values_after}
+use Rattle.domain.specs.Promise.{ParabolaCorrect, ValueInNumbers, HardInNumbers, ListedInNumbers, BesideInNumbers, ValuesBeside, ResidueInSegment, HardInSegment, CoveringsCorrect, WithoutWindow, MarksCorrect, DomainCorrect, OriginCorrect, ScanCorrect, Promised}
 use Rattle.domain.specs.declared.Domain.{Domain}
-use Rattle.domain.specs.declared.DomainAnswer.TheVariants as domain_variants
-use Rattle.domain.specs.declared.ScanAnswer.TheVariants as scan_variants
-use Rattle.domain.proofs.Answers.{Room, searched_in_range, number_accepts, number_as_segment, scan_accepts}
+use Rattle.domain.specs.Marks.{mark_numbers}
+use Rattle.domain.specs.declared.Searched.{Searched}
+use Rattle.domain.specs.declared.marks.Mark.{Mark}
+use Rattle.domain.proofs.Answers.{Room, searched_in_range, number_accepts, number_as_segment, domain_named, scan_named, scan_accepts}
 use Rattle.domain.proofs.Numbers.{value_in_numbers, hard_by_numbers, nearest, residue_in_segment, hard_in_segment}
 use Rattle.domain.proofs.Parts.{none_listed}
 use Rattle.domain.proofs.Verdicts.{searched_parts, part_in_range, phases_correct, marks_correct, marks_as_before}
@@ -99,26 +104,22 @@ coverings_correct d a =
 
 -- ---- domains
 
-module _ (p : Parabola) where
-  -- an answer is a refusal exactly by a number that is not 0
-  refuses_with : (k n : ℕ) → (answer_with k p ≡ domain_variants.Refused n) ↔ ((k ≡ n) × (n ≡ 0 → ⊥))
-  unfolding answer_with
-  refuses_with zero n = (λ e. absurd (let z : ◌≡◌ {A = ℕ} 0 1 = cc in omega arith), λ h. absurd (h.1 (sym h.0)))
-  refuses_with (suc k) n = (λ e. let f : suc k ≡ n = cc in (f, λ z. omega (arith, f, z)), λ h. ap domain_variants.Refused h.0)
+-- an answer is there exactly where nothing refuses
+shows : {A : Type 0} (k : ℕ) (a : A) {x : A} → (outcome k a ≡ Ok x) ↔ ((k ≡ 0) × (x ≡ a))
+unfolding outcome
+shows zero a = (λ e. (refl, cc), λ h. ap Ok (sym h.1))
+shows (suc k) a = (λ e. absurd (cc), λ h. absurd (omega (arith, h.0)))
 
-  -- and otherwise reports
-  reports_with : (k : ℕ) (v : Verdict) (n : ℕ)
-      → (answer_with k p ≡ domain_variants.Searched v n) ↔ ((k ≡ 0) × (v ≡ verdict regular (covering p)) × (n ≡ length (hard_list p)))
-  unfolding answer_with
-  reports_with zero v n = (λ e. (refl, cc, cc), λ h. ap₂ domain_variants.Searched (sym h.1) (sym h.2))
-  reports_with (suc k) v n = (λ e. absurd (let z : ◌≡◌ {A = ℕ} 0 1 = cc in omega arith), λ h. absurd (omega (arith, h.0)))
+-- a refusal has a number that is not 0
+refused_number : {A : Type 0} (k : ℕ) (a : A) {r : Refusal} → outcome k a ≡ Err r → k ≡ 0 → ⊥
+refused_number k a e z = not_refused a (rw z at e)
 
 -- an empty list over another
 nothing_over : {xs : List ℕ} (old : List ℕ) → xs ≡ [] → overwrite_front xs old ≡ old
 unfolding overwrite_front
 nothing_over old e = rw e refl
 
-module _ (d : Domain) (old_marks old old_values : List ℕ) where
+module _ (d : Domain) (old_marks : List Mark) (old old_values : List ℕ) where
   -- the number of the answer
   abbrev domain_number_of : ℕ
   domain_number_of = domain_number d (length old) (length old_values)
@@ -136,41 +137,39 @@ module _ (d : Domain) (old_marks old old_values : List ℕ) where
   unfolding domain_answer
   domain_correct =
       record {
-        refused = λ n. (λ e. (by_number n).0 ((refuses n).0 e), λ f. (refuses n).1 ((by_number n).1 f));
-        unchanged = λ n e. unfold marks_after list_after values_after in
-            let r = (refuses n).0 e in
-            let z : domain_number_of ≡ 0 → ⊥ = λ z. r.1 (sym r.0 ∙ z) in
+        refused = λ r. unfold domain_number in
+            outcome_refuses (domain_checks d (length old) (length old_values)) (found (centred_of d)) r (domain_named d (length old) (length old_values));
+        unchanged = λ r e. unfold marks_after list_after values_after in
+            let z = refused_number domain_number_of (found (centred_of d)) e in
             (refused_old domain_number_of _ old_marks z, refused_old domain_number_of _ old z, refused_old domain_number_of _ old_values z);
-        searched = λ v n. (
-          λ e. let r = (reports v n).0 e in let t = taken r.0 in (t.0, t.1.0, t.1.1, r.1, r.2),
-          λ h. (reports v n).1 ((number_accepts d (length old) (length old_values)).1 (h.0, (h.1, h.2)), h.3, h.4),
+        searched = λ s. (
+          λ e. let r = (reports s).0 e in let t = taken r.0 in (t.0, t.1.0, t.1.1, r.1, r.2),
+          λ h. (reports s).1 ((number_accepts d (length old) (length old_values)).1 (h.0, (h.1, h.2)), h.3, h.4),
         );
-        written = λ v n e. searched_leaves ((reports v n).0 e).0;
-        marked = λ v n e. let r = (reports v n).0 e in
-            subst (λ (m : List ℕ). MarksCorrect d v m) (sym (searched_leaves r.0).0)
+        written = λ s e. searched_leaves ((reports s).0 e).0;
+        marked = λ s e. let r = (reports s).0 e in
+            subst (λ (m : List Mark). MarksCorrect d s.first (mark_numbers m)) (sym (searched_leaves r.0).0)
             (rw r.1 (marks_correct d (taken r.0).0.searchable (verdict regular (covering_of d))));
-        cleared = λ n e. cleared n ((reports Clear n).0 e);
-        buffer = λ v n e. buffer ((reports v n).0 e).0;
-        values_buffer = λ v n e. values_buffer ((reports v n).0 e).0;
-        hard = λ v n e. let r = (reports v n).0 e in hard n r.0 r.2;
-        ascends = λ v n e. let r = (reports v n).0 e in
+        cleared = λ s e v. cleared s v ((reports s).0 e);
+        buffer = λ s e. buffer ((reports s).0 e).0;
+        values_buffer = λ s e. values_buffer ((reports s).0 e).0;
+        hard = λ s e. let r = (reports s).0 e in hard s.listed r.0 r.2;
+        ascends = λ s e. let r = (reports s).0 e in
             λ i j h k. front_ascends (buffer r.0) (listed_are d (taken r.0).0).ascending i j h (omega (arith, r.2, as_many d));
-        values = λ v n e i h. let r = (reports v n).0 e in values r.0 i (omega (arith, r.2, as_many d));
-        after = λ v n e i h.
-            let r = (reports v n).0 e in
+        values = λ s e i h. let r = (reports s).0 e in values r.0 i (omega (arith, r.2, as_many d));
+        after = λ s e i h.
+            let r = (reports s).0 e in
             let beside = (hard_values_are d (taken r.0).0.searchable).as_many in
             ((buffer r.0).after i (omega (arith, r.2, as_many d)), (values_buffer r.0).after i (omega (arith, r.2, as_many d, beside)));
       }
     where
-      refuses : (n : ℕ) → (answer_with domain_number_of (centred_of d) ≡ domain_variants.Refused n) ↔ ((domain_number_of ≡ n) × (n ≡ 0 → ⊥))
-      refuses = refuses_with (centred_of d) domain_number_of
-
-      reports : (v : Verdict) (n : ℕ) → (answer_with domain_number_of (centred_of d) ≡ domain_variants.Searched v n)
-          ↔ ((domain_number_of ≡ 0) × (v ≡ verdict regular (covering_of d)) × (n ≡ length (hard_arguments d)))
-      reports = reports_with (centred_of d) domain_number_of
-
-      by_number : (n : ℕ) → ((domain_number_of ≡ n) × (n ≡ 0 → ⊥)) ↔ RefusedFor d (length old) (length old_values) n
-      by_number = unfold domain_number in gives (domain_checks d (length old) (length old_values)) (omega arith)
+      reports : (s : Searched) → (answer_with domain_number_of (centred_of d) ≡ Ok s)
+          ↔ ((domain_number_of ≡ 0) × (s.first ≡ verdict regular (covering_of d)) × (s.listed ≡ length (hard_arguments d)))
+      reports s =
+          let r = shows domain_number_of (found (centred_of d)) {x = s} in (
+            λ e. let h = r.0 e in (h.0, ap (λ (s : Searched). s.first) h.1, ap (λ (s : Searched). s.listed) h.1),
+            λ h. r.1 (h.0, λ i. record { first = h.1 i; listed = h.2 i }),
+          )
 
       taken : domain_number_of ≡ 0 → Accepted d × Room (hard_arguments d) (length old) (length old_values)
       taken = (number_accepts d (length old) (length old_values)).0
@@ -198,16 +197,18 @@ module _ (d : Domain) (old_marks old old_values : List ℕ) where
           = ap₂ take (f ∙ sym (as_many d)) (searched_leaves e).1 ∙ front_taken (listed_arguments d) old in
           subst (Enumerates (ListedInNumbers d) n) (sym t) (rw f (listed_are d (taken e).0))
 
-      cleared : (n : ℕ) → (domain_number_of ≡ 0) × (Clear ≡ verdict regular (covering_of d)) × (n ≡ length (hard_arguments d))
-          → (n ≡ 0) × (list_after d (length old_values) old ≡ old) × (values_after d (length old) old_values ≡ old_values)
+      cleared : (s : Searched) → s.first ≡ Clear
+          → (domain_number_of ≡ 0) × (s.first ≡ verdict regular (covering_of d)) × (s.listed ≡ length (hard_arguments d))
+          → (s.listed ≡ 0) × (list_after d (length old_values) old ≡ old) × (values_after d (length old) old_values ≡ old_values)
           × ((x : ℕ) → HardInNumbers d x → ⊥)
-      cleared n r =
+      cleared s v r =
           let a = (taken r.0).0.searchable in
-          let z : hard_arguments d ≡ [] = none_listed regular (searched_in_range d a) (sym r.1) in (
+          let clear = sym r.1 ∙ v in
+          let z : hard_arguments d ≡ [] = none_listed regular (searched_in_range d a) clear in (
             r.2 ∙ ap length z,
             (searched_leaves r.0).1 ∙ nothing_over old (ap (map (λ (x : ℕ). d.origin + x)) z),
             (searched_leaves r.0).2 ∙ nothing_over old_values (ap (map (value_at (parabola_of d))) z),
-            λ x h. (phases_correct d a).first_none (sym r.1) x h,
+            λ x h. (phases_correct d a).first_none clear x h,
           )
 
 -- ---- another origin
@@ -217,21 +218,21 @@ number_of_rest : (d : Domain) (m n : ℕ) → d.origin ≤ 2 ^ 52 → domain_num
 unfolding domain_number
 number_of_rest d m n h = without_holding (arcs.checks (parabola_of d)) _ (room (hard_arguments d) m n) h
 
-origin_correct : (d : Domain) (o : ℕ) (old_marks old old_values : List ℕ) → d.origin ≤ 2 ^ 52 → o ≤ 2 ^ 52 → OriginCorrect d o old_marks old old_values
+origin_correct : (d : Domain) (o : ℕ) (old_marks : List Mark) (old old_values : List ℕ) → d.origin ≤ 2 ^ 52 → o ≤ 2 ^ 52 → OriginCorrect d o old_marks old old_values
 origin_correct d o old_marks old old_values h k =
     record {
       is = refl;
       same_answer = same_answer;
       same_marks = unfold marks_after in ap (λ (n : ℕ). unless_refused n (marks_of d) old_marks) same_number;
       same_values = unfold values_after in ap (λ (n : ℕ). unless_refused n (overwrite_front (hard_values d) old_values) old_values) same_number;
-      moved = λ v n e i l.
+      moved = λ s e i l.
           let here = domain_correct d old_marks old old_values in
           let there = domain_correct (with_origin o d) old_marks old old_values in
-          let m : i < length (hard_arguments d) = omega (arith, ((here.searched v n).0 e).4) in
+          let m : i < length (hard_arguments d) = omega (arith, ((here.searched s).0 e).4) in
           omega (
             arith,
-            (here.buffer v n e).front i (omega (arith, as_many d)) ∙ listed_at d i m,
-            (there.buffer v n (same_answer ∙ e)).front i (omega (arith, as_many (with_origin o d))) ∙ listed_at (with_origin o d) i m,
+            (here.buffer s e).front i (omega (arith, as_many d)) ∙ listed_at d i m,
+            (there.buffer s (same_answer ∙ e)).front i (omega (arith, as_many (with_origin o d))) ∙ listed_at (with_origin o d) i m,
           );
     }
   where
@@ -242,28 +243,22 @@ origin_correct d o old_marks old old_values h k =
     same_answer = unfold domain_answer in ap (λ (n : ℕ). answer_with n (centred_of d)) same_number
 
 -- the number of a domain that is 1 to 5 is that of the segment: else the segment has 0, and what is asked after it has 6, 11 or 7
-refused_as_segment : (d : Domain) (list_places value_places n : ℕ) → 1 ≤ n → n ≤ 5
-    → (domain_answer d list_places value_places ≡ domain_variants.Refused n)
-    ↔ (segment.refusal (segment.asked d.modulus d.slope d.value d.count d.window) ≡ n)
+refused_as_segment : (d : Domain) (list_places value_places : ℕ) (r : Refusal) → number_of r ≤ 5
+    → (domain_answer d list_places value_places ≡ Err r)
+    ↔ (segment.refusal (segment.asked d.modulus d.slope d.value d.count d.window) ≡ number_of r)
 unfolding domain_answer
-refused_as_segment d list_places value_places n low high =
-    let r = refuses_with (centred_of d) (domain_number d list_places value_places) n in
-    let m = number_as_segment d list_places value_places low high in
-    (λ e. m.0 (r.0 e).0, λ e. r.1 (m.1 e, λ z. omega arith))
+refused_as_segment d m n r high =
+    let low = number_positive r in
+    let s = number_as_segment d m n low high in
+    let k = domain_number d m n in
+    let named = failing_number (domain_checks d m n) (found (centred_of d)) (domain_named d m n) in (
+      λ e. s.0 (unfold domain_number in sym named ∙ ap number_in e),
+      λ e. ap (λ (k : ℕ). outcome k (found (centred_of d))) (s.1 e) ∙ refusals_correct.refused r (found (centred_of d)),
+    )
 
 -- ---- scans
 
 module _ (s : Segment) where
-  scan_refuses_with : (k n : ℕ) → (scan_answer_with k s ≡ scan_variants.Refused n) ↔ ((k ≡ n) × (n ≡ 0 → ⊥))
-  unfolding scan_answer_with
-  scan_refuses_with zero n = (λ e. absurd (let z : ◌≡◌ {A = ℕ} 0 1 = cc in omega arith), λ h. absurd (h.1 (sym h.0)))
-  scan_refuses_with (suc k) n = (λ e. let f : suc k ≡ n = cc in (f, λ z. omega (arith, f, z)), λ h. ap scan_variants.Refused h.0)
-
-  scan_lists_with : (k n : ℕ) → (scan_answer_with k s ≡ scan_variants.Listed n) ↔ ((k ≡ 0) × (n ≡ length (geometry.hard_list s)))
-  unfolding scan_answer_with
-  scan_lists_with zero n = (λ e. (refl, cc), λ h. ap scan_variants.Listed (sym h.1))
-  scan_lists_with (suc k) n = (λ e. absurd (let z : ◌≡◌ {A = ℕ} 0 1 = cc in omega arith), λ h. absurd (omega (arith, h.0)))
-
   module _ (old old_values : List ℕ) where
     -- the number of the answer, and what is then in the list and in the values
     abbrev scan_number_of : ℕ
@@ -275,33 +270,30 @@ module _ (s : Segment) where
     abbrev new_values : List ℕ
     new_values = unless_refused scan_number_of (overwrite_front (hard_residues s) old_values) old_values
 
-    scan_correct : ScanCorrect s old old_values (scan_answer_with scan_number_of s) new_list new_values
+    scan_correct : ScanCorrect s old old_values (outcome scan_number_of (length (geometry.hard_list s))) new_list new_values
     scan_correct =
         record {
-          refused = λ n. (λ e. (by_number n).0 ((scan_refuses_with scan_number_of n).0 e), λ f. (scan_refuses_with scan_number_of n).1 ((by_number n).1 f));
-          unchanged = λ n e.
-              let r = (scan_refuses_with scan_number_of n).0 e in
-              let z : scan_number_of ≡ 0 → ⊥ = λ z. r.1 (sym r.0 ∙ z) in
+          refused = λ r. unfold scan_number in
+              outcome_refuses (scan_checks s (length old) (length old_values)) (length (geometry.hard_list s)) r (scan_named s (length old) (length old_values));
+          unchanged = λ r e.
+              let z = refused_number scan_number_of (length (geometry.hard_list s)) e in
               (refused_old scan_number_of _ old z, refused_old scan_number_of _ old_values z);
           listed = λ n. (
-            λ e. let r = (scan_lists_with scan_number_of n).0 e in let t = taken r.0 in (t.0, t.1.0, t.1.1, r.1),
-            λ h. (scan_lists_with scan_number_of n).1 ((scan_accepts s (length old) (length old_values)).1 (h.0, (h.1, h.2)), h.3),
+            λ e. let r = (shows scan_number_of (length (geometry.hard_list s)) {x = n}).0 e in let t = taken r.0 in (t.0, t.1.0, t.1.1, r.1),
+            λ h. (shows scan_number_of (length (geometry.hard_list s)) {x = n}).1 ((scan_accepts s (length old) (length old_values)).1 (h.0, (h.1, h.2)), h.3),
           );
-          buffer = λ n e. buffer ((scan_lists_with scan_number_of n).0 e).0;
-          values_buffer = λ n e. values_buffer ((scan_lists_with scan_number_of n).0 e).0;
-          hard = λ n e. hard n ((scan_lists_with scan_number_of n).0 e);
-          ascends = λ n e. let r = (scan_lists_with scan_number_of n).0 e in
+          buffer = λ n e. buffer ((shows scan_number_of (length (geometry.hard_list s)) {x = n}).0 e).0;
+          values_buffer = λ n e. values_buffer ((shows scan_number_of (length (geometry.hard_list s)) {x = n}).0 e).0;
+          hard = λ n e. hard n ((shows scan_number_of (length (geometry.hard_list s)) {x = n}).0 e);
+          ascends = λ n e. let r = (shows scan_number_of (length (geometry.hard_list s)) {x = n}).0 e in
               λ i j h k. front_ascends (buffer r.0) (listed r.0).ascending i j h (omega (arith, r.1));
-          values = λ n e i h. let r = (scan_lists_with scan_number_of n).0 e in values r.0 i (omega (arith, r.1));
+          values = λ n e i h. let r = (shows scan_number_of (length (geometry.hard_list s)) {x = n}).0 e in values r.0 i (omega (arith, r.1));
           after = λ n e i h.
-              let r = (scan_lists_with scan_number_of n).0 e in
+              let r = (shows scan_number_of (length (geometry.hard_list s)) {x = n}).0 e in
               let as_many = length-map (geometry.hard_list s) (residue s) in
               ((buffer r.0).after i (omega (arith, r.1)), (values_buffer r.0).after i (omega (arith, r.1, as_many)));
         }
       where
-        by_number : (n : ℕ) → ((scan_number_of ≡ n) × (n ≡ 0 → ⊥)) ↔ ScanRefusedFor s (length old) (length old_values) n
-        by_number = unfold scan_number in gives (scan_checks s (length old) (length old_values)) (omega arith)
-
         taken : scan_number_of ≡ 0 → segment.Accepted s × Room (geometry.hard_list s) (length old) (length old_values)
         taken = (scan_accepts s (length old) (length old_values)).0
 
@@ -347,7 +339,7 @@ without_window d e =
     record {
       none_hard = λ x h. ⊎_elim (λ l. omega (arith, e, l)) (λ l. omega (arith, e, l)) h.1.2;
       refused = λ list_places value_places low high slope value some most.
-          (refused_as_segment d list_places value_places 5 (omega arith) (omega arith)).1
+          (refused_as_segment d list_places value_places Window (omega arith)).1
           (rw e (((segment_promises.promised).without_window _ _ _ _).refused low high slope value some most).0);
     }
 
@@ -378,6 +370,7 @@ promised =
       domains = domain_correct;
       scans = λ M a b N w old old_values. unfold scan_answer scan_list_after scan_values_after in scan_correct (segment.asked M a b N w) old old_values;
       without_window = without_window;
-      domain_numbers = λ v n. unfold domain_refusal domain_count domain_first in (refl, refl, refl, refl, refl, refl);
-      scan_numbers = λ n. unfold scan_refusal scan_count in (refl, refl, refl, refl);
+      domain_numbers = λ r s. (refl, refl, refl, refl, refl, refl);
+      mark_numbers_are = refl;
+      scan_numbers = λ r n. (refl, refl, refl, refl);
     }

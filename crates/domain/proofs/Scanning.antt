@@ -24,7 +24,7 @@ use Rattle.parabola.specs.Promise.{ValuesCorrect}
 use Rattle.parabola.proofs.Laws.{positive}
 use Rattle.parabola.proofs.Promises.{promised}
 use Rattle.domain.specs.Scan.{PointBelow, next_point, lowered, lowered_at, lowered_values}
-use Rattle.domain.specs.declared.scan.Point.{Point}
+use Rattle.arc.specs.declared.Point.{Point}
 
 -- ---- from a value to the next
 

@@ -1,12 +1,14 @@
 -- The phases and the marks as promised. Assumes nothing.
 use mathlib.Core.Path.{◌≡◌, refl, sym, ◌∙◌, ap, ap₂}
-use mathlib.Core.List.{List}
+use mathlib.Core.List.{List, map-map}
 use mathlib.Core.Logic.{◌↔◌, by_cases}
 use Prim.Native.Nat.{ℕ, zero, suc, ◌+◌, ◌-◌, ◌*◌, ◌/◌, ◌%◌, ◌≤◌, ◌<◌}
 use native.Mathlib.Decide.{dec_lt}
 use native.Mathlib.Omega.{arith}
 use lib.ListN.{length, get_or, replicate, get_or-replicate, get_or-eq_default}
 use Rattle.numbers.proofs.Equivalences.{through}
+use Rattle.numbers.specs.Lists.{tabulate}
+use Rattle.numbers.proofs.Lists.{mapped_at}
 use Rattle.numbers.proofs.Selections.{tabulate_length, tabulate_at}
 use Rattle.expansion.specs.Reached.{Search}
 use Rattle.expansion.specs.Reached.Search.{regular, fine}
@@ -22,10 +24,11 @@ use Rattle.parabola.proofs.Promises as parabola
 use Rattle.arc.proofs.Promises as arc
 use Rattle.domain.specs.Domain.{centred_of, covering_of, part_covering, Searchable}
 use Rattle.domain.specs.Answer.{marks_of}
+use Rattle.domain.specs.Marks.{mark_number, mark_numbers}
 use Rattle.domain.specs.Phases.{mark_of, mark_with, part_mark, part_marks, marks_by}
 use Rattle.domain.specs.Promise.{NoneInPart, PhasesCorrect, MarksCorrect}
 use Rattle.domain.specs.declared.Domain.{Domain}
-use Rattle.domain.proofs.Parts.{otherwise, mark_empty, mark_some}
+use Rattle.domain.proofs.Parts.{otherwise, mark_some}
 use Rattle.domain.proofs.Answers.{searched_in_range}
 use Rattle.domain.proofs.Numbers.{hard_by_numbers}
 
@@ -71,43 +74,58 @@ module _ (d : Domain) (a : Searchable d) where
 
 -- ---- marks
 
--- the mark of a part that is looked at tells whether it has arguments, and its verdict
-mark_clear : (n : ℕ) (v : Verdict) → (mark_with n v ≡ 1) ↔ ((1 ≤ n) × (v ≡ Clear))
+-- the number of a part's mark tells whether it has arguments, and its verdict
+abbrev number_with : (count : ℕ) → Verdict → ℕ
+number_with n v = mark_number (mark_with n v)
+
+mark_clear : (n : ℕ) (v : Verdict) → (number_with n v ≡ 1) ↔ ((1 ≤ n) × (v ≡ Clear))
 unfolding mark_of mark_with
 mark_clear zero v = (λ e. absurd (omega (arith, e)), λ h. absurd (omega (arith, h.0)))
 mark_clear (suc n) Clear = (λ e. (omega arith, refl), λ h. refl)
 mark_clear (suc n) Possible = (λ e. absurd (omega (arith, e)), λ h. absurd (apart (sym h.1)))
 
-mark_possible : (n : ℕ) (v : Verdict) → (mark_with n v ≡ 2) ↔ ((1 ≤ n) × (v ≡ Possible))
+mark_possible : (n : ℕ) (v : Verdict) → (number_with n v ≡ 2) ↔ ((1 ≤ n) × (v ≡ Possible))
 unfolding mark_of mark_with
 mark_possible zero v = (λ e. absurd (omega (arith, e)), λ h. absurd (omega (arith, h.0)))
 mark_possible (suc n) Clear = (λ e. absurd (omega (arith, e)), λ h. absurd (apart h.1))
 mark_possible (suc n) Possible = (λ e. (omega arith, refl), λ h. refl)
 
-mark_within : (v : Verdict) → (1 ≤ mark_of v) × (mark_of v ≤ 2)
-unfolding mark_of
-mark_within Clear = (omega arith, omega arith)
-mark_within Possible = (omega arith, omega arith)
-
-mark_none : (n : ℕ) (v : Verdict) → (mark_with n v ≡ 3) ↔ (n ≡ 0)
-mark_none zero v = (λ e. refl, λ e. mark_empty v refl)
-mark_none (suc n) v = let e = mark_some (suc n) v (omega arith) in (λ f. absurd (omega (arith, e, f, mark_within v)), λ z. absurd (omega (arith, z)))
+mark_none : (n : ℕ) (v : Verdict) → (number_with n v ≡ 3) ↔ (n ≡ 0)
+unfolding mark_of mark_with
+mark_none zero v = (λ e. refl, λ e. refl)
+mark_none (suc n) Clear = (λ e. absurd (omega (arith, e)), λ z. absurd (omega (arith, z)))
+mark_none (suc n) Possible = (λ e. absurd (omega (arith, e)), λ z. absurd (omega (arith, z)))
 
 -- it is 1, 2 or 3
-mark_looked_at : (n : ℕ) (v : Verdict) → (1 ≤ mark_with n v) × (mark_with n v ≤ 3)
-mark_looked_at zero v = let e = mark_empty {n = 0} v refl in (omega arith, omega arith)
-mark_looked_at (suc n) v = let e = mark_some (suc n) v (omega arith) in (omega (arith, mark_within v), omega (arith, mark_within v))
+mark_looked_at : (n : ℕ) (v : Verdict) → (1 ≤ number_with n v) × (number_with n v ≤ 3)
+unfolding mark_of mark_with
+mark_looked_at zero v = (omega arith, omega arith)
+mark_looked_at (suc n) Clear = (omega arith, omega arith)
+mark_looked_at (suc n) Possible = (omega arith, omega arith)
 
 -- of eight entries none is above 3
 eight_small : (xs : List ℕ) → length xs ≡ 8 → ((i : ℕ) → i < 8 → get_or xs i 0 ≤ 3) → (i : ℕ) → get_or xs i 0 ≤ 3
 eight_small xs e small i =
     by_cases (dec_lt i 8) (small i) (λ h. omega (arith, get_or-eq_default xs 0 {n = i} (omega (arith, e))))
 
-mark_at : (d : Domain) (i : ℕ) → i < 8 → get_or (part_marks (centred_of d)) i 0 ≡ mark_with (part_count d.count i) (verdict fine (part_covering d i))
-unfolding continued centred
-mark_at d i h = tabulate_at (part_mark (centred_of d)) 8 i h
+-- the marks of the parts that are looked at, by number
+abbrev numbers_of : Domain → List ℕ
+numbers_of d = mark_numbers (part_marks (centred_of d))
 
-pub marks_correct : (d : Domain) → Searchable d → (v : Verdict) → MarksCorrect d v (marks_by v (centred_of d))
+numbers_eight : (d : Domain) → length (numbers_of d) ≡ 8
+unfolding tabulate
+numbers_eight d = refl
+
+mark_at : (d : Domain) (i : ℕ) → i < 8 → get_or (numbers_of d) i 0 ≡ number_with (part_count d.count i) (verdict fine (part_covering d i))
+unfolding continued centred
+mark_at d i h =
+    let places = tabulate (λ i. i) 8 0 in
+    let number : ℕ → ℕ = λ i. mark_number (part_mark (centred_of d) i) in
+    ap (λ (xs : List ℕ). get_or xs i 0) (map-map mark_number (part_mark (centred_of d)) places)
+    ∙ mapped_at number places i (omega (arith, h, tabulate_length (λ i. i) 8 0))
+    ∙ ap number (tabulate_at (λ i. i) 8 i h)
+
+pub marks_correct : (d : Domain) → Searchable d → (v : Verdict) → MarksCorrect d v (mark_numbers (marks_by v (centred_of d)))
 unfolding marks_by
 marks_correct d a Clear =
     let zero_at : (i : ℕ) → i < 8 → ◌≡◌ {A = ℕ} (get_or (replicate 8 0) i 0) 0 = λ i h. get_or-replicate {A = ℕ} 8 i 0 0 h in
@@ -122,9 +140,9 @@ marks_correct d a Clear =
       hard_in_2 = λ e. absurd (apart e);
     }
 marks_correct d a Possible =
-    let marks = part_marks (centred_of d) in
-    let long : length (part_marks (centred_of d)) ≡ 8 = tabulate_length (part_mark (centred_of d)) 8 0 in
-    let looked : (i : ℕ) → i < 8 → (1 ≤ get_or (part_marks (centred_of d)) i 0) × (get_or (part_marks (centred_of d)) i 0 ≤ 3)
+    let marks = numbers_of d in
+    let long = numbers_eight d in
+    let looked : (i : ℕ) → i < 8 → (1 ≤ get_or (numbers_of d) i 0) × (get_or (numbers_of d) i 0 ≤ 3)
     = λ i h. rw (mark_at d i h) (mark_looked_at _ _) in
     record {
       eight = long;
@@ -141,11 +159,11 @@ marks_correct d a Possible =
 
 -- where all parts have N/8 arguments, and at least one, a mark is by the verdict on such a part
 pub marks_as_before : (d : Domain) → Searchable d → 8 ≤ d.count → d.count % 8 ≡ 0 → verdict regular (covering_of d) ≡ Possible → (i : ℕ) → i < 8
-    → get_or (marks_of d) i 0 ≡ mark_of (verdict fine (covering (continued (centred_of d) (i * (d.count / 8)) (d.count / 8))))
+    → get_or (mark_numbers (marks_of d)) i 0 ≡ mark_number (mark_of (verdict fine (covering (continued (centred_of d) (i * (d.count / 8)) (d.count / 8)))))
 unfolding marks_by centred
 marks_as_before d a low e possible i h =
     let same = ((parabola.promised).eight_parts d.count).of_a_multiple e i in
-    ap (λ (v : Verdict). get_or (marks_by v (centred_of d)) i 0) possible
+    ap (λ (v : Verdict). get_or (mark_numbers (marks_by v (centred_of d))) i 0) possible
     ∙ mark_at d i h
-    ∙ mark_some _ _ (omega (arith, same.1))
-    ∙ ap₂ (λ (b n : ℕ). mark_of (verdict fine (covering (continued (centred_of d) b n)))) same.0 same.1
+    ∙ ap mark_number (mark_some _ _ (omega (arith, same.1)))
+    ∙ ap₂ (λ (b n : ℕ). mark_number (mark_of (verdict fine (covering (continued (centred_of d) b n))))) same.0 same.1

@@ -1,9 +1,11 @@
 -- What the two calls answer, and what they leave in the caller's buffers. Assumes nothing: these are definitions.
-use Rattle.std.specs.Prelude.{List, [], ◌∷◌, ◌++◌, map, ℕ, zero, suc, ◌^◌, length}
+use Rattle.std.specs.Prelude.{List, [], ◌∷◌, ◌++◌, map, ℕ, ◌^◌, length, Result, Ok, Err}
 use Rattle.std.proofs.Math.Logic.Dec
 use Rattle.std.proofs.Math.Decide.{dec_le}
 use Rattle.numbers.specs.Checklist.{Check, check, first_failing, unless_refused}
 use Rattle.numbers.specs.Lists.{overwrite_front}
+use Rattle.numbers.specs.Refusals.{outcome}
+use Rattle.numbers.specs.declared.refusals.Refusal.{Refusal}
 use Rattle.expansion.specs.Reached.Search.{regular}
 use Rattle.geometry.specs.Segment.{Segment, residue}
 use Rattle.geometry.specs.Segment as geometry
@@ -17,10 +19,8 @@ use Rattle.domain.specs.Domain.{parabola_of, centred_of, hard_arguments, listed_
 use Rattle.domain.specs.Scan.{listed_from, lowered_values}
 use Rattle.domain.specs.Phases.{marks}
 use Rattle.domain.specs.declared.Domain.{Domain}
-use Rattle.domain.specs.declared.DomainAnswer.{DomainAnswer}
-use Rattle.domain.specs.declared.DomainAnswer.TheVariants as domain_variants
-use Rattle.domain.specs.declared.ScanAnswer.{ScanAnswer}
-use Rattle.domain.specs.declared.ScanAnswer.TheVariants as scan_variants
+use Rattle.domain.specs.declared.Searched.{Searched}
+use Rattle.domain.specs.declared.marks.Mark.{Mark}
 
 -- 7, unless the list and the values each have a place for every hard argument
 abbrev pub room : (xs : List ℕ) → (list_places value_places : ℕ) → List Check
@@ -44,21 +44,24 @@ domain_checks d m n = own_checks d ++ room (hard_arguments d) m n
 unfoldable pub domain_number : Domain → (list_places value_places : ℕ) → ℕ
 domain_number d m n = first_failing (domain_checks d m n)
 
--- the answer where the checklist gives this number: a refusal carries it alone; else phase 1's verdict and how many arguments are listed
-unfoldable pub answer_with : (number : ℕ) → Parabola → DomainAnswer
-answer_with zero p = domain_variants.Searched (verdict regular (covering p)) (length (hard_list p))
-answer_with (suc n) p = domain_variants.Refused (suc n)
+-- what a search of a parabola finds: phase 1's verdict and how many arguments are listed
+abbrev pub found : Parabola → Searched
+found p = record { first = verdict regular (covering p); listed = length (hard_list p) }
+
+-- the answer where the checklist gives this number: a refusal stands alone
+abbrev pub answer_with : (number : ℕ) → Parabola → Result Searched Refusal
+answer_with n p = outcome n (found p)
 
 -- the answer for a domain with a list and values of so many places
-unfoldable pub domain_answer : Domain → (list_places value_places : ℕ) → DomainAnswer
+unfoldable pub domain_answer : Domain → (list_places value_places : ℕ) → Result Searched Refusal
 domain_answer d m n = answer_with (domain_number d m n) (centred_of d)
 
 -- the eight marks of a domain
-abbrev pub marks_of : Domain → List ℕ
+abbrev pub marks_of : Domain → List Mark
 marks_of d = marks (centred_of d)
 
 -- the caller's marks then
-unfoldable pub marks_after : Domain → (list_places value_places : ℕ) → (old : List ℕ) → List ℕ
+unfoldable pub marks_after : Domain → (list_places value_places : ℕ) → (old : List Mark) → List Mark
 marks_after d m n old = unless_refused (domain_number d m n) (marks_of d) old
 
 -- the caller's list: the hard arguments, each as origin + x, from the first place on, and the places after them as they were
@@ -69,20 +72,15 @@ list_after d n old = unless_refused (domain_number d (length old) n) (overwrite_
 unfoldable pub values_after : Domain → (list_places : ℕ) → (old : List ℕ) → List ℕ
 values_after d m old = unless_refused (domain_number d m (length old)) (overwrite_front (hard_values d) old) old
 
--- the number of a domain's refusal; 0 where there is none
-unfoldable pub domain_refusal : DomainAnswer → ℕ
-domain_refusal (domain_variants.Refused n) = n
-domain_refusal (domain_variants.Searched v n) = 0
-
 -- phase 1's verdict; possible where it refuses, so that nobody takes the domain for cleared
-unfoldable pub domain_first : DomainAnswer → Verdict
-domain_first (domain_variants.Refused n) = Possible
-domain_first (domain_variants.Searched v n) = v
+abbrev pub domain_first : Result Searched Refusal → Verdict
+domain_first (Ok s) = s.first
+domain_first (Err r) = Possible
 
 -- how many arguments it listed; 0 where it refuses
-unfoldable pub domain_count : DomainAnswer → ℕ
-domain_count (domain_variants.Refused n) = 0
-domain_count (domain_variants.Searched v n) = n
+abbrev pub domain_count : Result Searched Refusal → ℕ
+domain_count (Ok s) = s.listed
+domain_count (Err r) = 0
 
 -- ---- phases 2 and 3
 
@@ -90,7 +88,7 @@ domain_count (domain_variants.Searched v n) = n
 unfoldable pub too_few : Parabola → (list_places value_places : ℕ) → ℕ
 too_few p m n = first_failing (room (hard_list p) m n)
 
-abbrev pub marks_with : (number : ℕ) → Parabola → (old : List ℕ) → List ℕ
+abbrev pub marks_with : (number : ℕ) → Parabola → (old : List Mark) → List Mark
 marks_with n p old = unless_refused n (marks p) old
 
 abbrev pub list_with : (number : ℕ) → (origin : ℕ) → Parabola → (old : List ℕ) → List ℕ
@@ -112,13 +110,9 @@ scan_checks s m n = segment.checks s ++ room (geometry.hard_list s) m n
 unfoldable pub scan_number : Segment → (list_places value_places : ℕ) → ℕ
 scan_number s m n = first_failing (scan_checks s m n)
 
-unfoldable pub scan_answer_with : (number : ℕ) → Segment → ScanAnswer
-scan_answer_with zero s = scan_variants.Listed (length (geometry.hard_list s))
-scan_answer_with (suc n) s = scan_variants.Refused (suc n)
-
--- the answer for modulus, step, start, count, window and a list and values of so many places
-unfoldable pub scan_answer : (M a b N w list_places value_places : ℕ) → ScanAnswer
-scan_answer M a b N w m n = scan_answer_with (scan_number (segment.asked M a b N w) m n) (segment.asked M a b N w)
+-- the answer for modulus, step, start, count, window and a list and values of so many places: how many hard arguments there are
+unfoldable pub scan_answer : (M a b N w list_places value_places : ℕ) → Result ℕ Refusal
+scan_answer M a b N w m n = outcome (scan_number (segment.asked M a b N w) m n) (length (geometry.hard_list (segment.asked M a b N w)))
 
 -- what the caller's list is then
 unfoldable pub scan_list_after : (M a b N w value_places : ℕ) → (old : List ℕ) → List ℕ
@@ -130,12 +124,7 @@ unfoldable pub scan_values_after : (M a b N w list_places : ℕ) → (old : List
 scan_values_after M a b N w m old =
     unless_refused (scan_number (segment.asked M a b N w) m (length old)) (overwrite_front (hard_residues (segment.asked M a b N w)) old) old
 
--- the number of a scan's refusal; 0 where there is none
-unfoldable pub scan_refusal : ScanAnswer → ℕ
-scan_refusal (scan_variants.Refused n) = n
-scan_refusal (scan_variants.Listed n) = 0
-
 -- how many it listed; 0 where it refuses
-unfoldable pub scan_count : ScanAnswer → ℕ
-scan_count (scan_variants.Refused n) = 0
-scan_count (scan_variants.Listed n) = n
+abbrev pub scan_count : Result ℕ Refusal → ℕ
+scan_count (Ok n) = n
+scan_count (Err r) = 0

@@ -1,8 +1,11 @@
 -- What is promised of domains and of scans (the second demand), with the letters of document 01: M the modulus, c0 the value, c1 the slope,
 -- s the curve, N the count, w the window; x is an argument below N, and y = origin + x as a domain lists it; of a segment a the step and b the start.
 -- `Promised`, at the end, is all of it; proofs/Promises.antt proves it. Assumes nothing: these are statements.
-use Rattle.std.specs.Prelude.{◌≡◌, List, [], ◌∷◌, ◌↔◌, ◌⊎◌, ℕ, suc, ◌+◌, ◌-◌, ◌*◌, ◌/◌, ◌%◌, ◌^◌, ◌≤◌, ◌<◌, ℤ, pos, nat_abs, ◌+ℤ◌, ◌*ℤ◌, length, get_or, take}
+use Rattle.std.specs.Prelude.{◌≡◌, List, [], ◌∷◌, ◌↔◌, ◌⊎◌, ℕ, suc, ◌+◌, ◌-◌, ◌*◌, ◌/◌, ◌%◌, ◌^◌, ◌≤◌, ◌<◌, ℤ, pos, nat_abs, ◌+ℤ◌, ◌*ℤ◌, length, get_or, take, Result, Ok, Err}
 use Rattle.numbers.specs.Checklist.{Condition, condition, RefusedBy}
+use Rattle.numbers.specs.Refusals.{number_of, number_in}
+use Rattle.numbers.specs.declared.refusals.Refusal.{Refusal}
+use Rattle.numbers.specs.declared.refusals.Refusal.TheVariants.{Window}
 use Rattle.numbers.specs.Integers.{◌modulo◌}
 use Rattle.numbers.specs.Lists.{overwrite_front}
 use Rattle.numbers.specs.Promise.{Enumerates, InPiece, BufferCorrect}
@@ -18,14 +21,14 @@ use Rattle.segment.specs.declared.Verdict.TheVariants.{Clear, Possible}
 use Rattle.parabola.specs.Parabola.{Parabola, value_at, slope_at, second_difference, covering, continued, part_start, part_count, part}
 use Rattle.parabola.specs.Promise.{ValuesCorrect, CoversBothBy, CoveringBothCorrect, CentredCorrect, EightPartsCorrect, PartsCorrect}
 use Rattle.domain.specs.Domain.{parabola_of, centred_of, hard_arguments, listed_arguments, hard_values, covering_of, part_covering, Searchable, Accepted, with_origin}
+use Rattle.domain.specs.Marks.{mark_number, mark_numbers}
 use Rattle.domain.specs.Phases.{mark_of}
 use Rattle.domain.specs.Scan.{next_point}
-use Rattle.domain.specs.Answer.{domain_answer, marks_of, marks_after, list_after, values_after, domain_refusal, domain_first, domain_count, hard_residues, scan_answer, scan_list_after, scan_values_after, scan_refusal, scan_count}
+use Rattle.domain.specs.Answer.{domain_answer, marks_of, marks_after, list_after, values_after, domain_first, domain_count, hard_residues, scan_answer, scan_list_after, scan_values_after, scan_count}
 use Rattle.domain.specs.declared.Domain.{Domain}
-use Rattle.domain.specs.declared.DomainAnswer.{DomainAnswer}
-use Rattle.domain.specs.declared.DomainAnswer.TheVariants as domain_variants
-use Rattle.domain.specs.declared.ScanAnswer.{ScanAnswer}
-use Rattle.domain.specs.declared.ScanAnswer.TheVariants as scan_variants
+use Rattle.domain.specs.declared.Searched.{Searched}
+use Rattle.domain.specs.declared.marks.Mark.{Mark}
+use Rattle.domain.specs.declared.marks.Mark.TheVariants as mark
 
 -- ---- the numbers of a call
 
@@ -98,7 +101,7 @@ pub record CoveringsCorrect (d : Domain) : Type 0 where
 pub record WithoutWindow (d : Domain) : Type 0 where
   pub none_hard : (x : ℕ) → HardInNumbers d x → ⊥
   pub refused : (list_places value_places : ℕ) → 2 ≤ d.modulus → d.modulus ≤ 2 ^ 62 → d.slope < d.modulus → d.value < d.modulus
-      → 1 ≤ d.count → d.count ≤ 1048576 → domain_answer d list_places value_places ≡ domain_variants.Refused 5
+      → 1 ≤ d.count → d.count ≤ 1048576 → domain_answer d list_places value_places ≡ Err Window
 
 -- ---- the phases
 
@@ -125,7 +128,7 @@ pub record PhasesCorrect (d : Domain) : Type 0 where
       → (verdict fine (part_covering d i) ≡ Clear) ↔ ((part_covering d i).window ≤ distance fine (part_covering d i))
   pub part_none : (i : ℕ) → 1 ≤ part_count d.count i → verdict fine (part_covering d i) ≡ Clear → NoneInPart d i
 
--- the eight marks: 0 exactly where phase 1 clears the domain, and so all of them. Where it does not, 3 exactly where the part has no argument, and of the others 1
+-- the numbers of the eight marks: 0 exactly where phase 1 clears the domain, and so all of them. Where it does not, 3 exactly where the part has no argument, and of the others 1
 -- exactly where the part is clear, and then no argument of it is hard, 2 exactly where it is possible: a part that has a hard argument is marked 2
 pub record MarksCorrect (d : Domain) (first : Verdict) (marks : List ℕ) : Type 0 where
   pub eight : length marks ≡ 8
@@ -175,56 +178,57 @@ ScanRefusedFor s list_places value_places n = RefusedBy (ScanAsked s list_places
 -- ---- answers
 
 -- what a domain is answered with the marks `old_marks`, a list `old` and values `old_values`, and what is then in them, `new_marks`, `new` and `new_values`
-pub record DomainCorrect (d : Domain) (old_marks old old_values : List ℕ) (answer : DomainAnswer) (new_marks new new_values : List ℕ) : Type 0 where
-  -- a number refuses exactly where its condition is the first that does not hold, and leaves marks, list and values as they were
-  pub refused : (n : ℕ) → (answer ≡ domain_variants.Refused n) ↔ RefusedFor d (length old) (length old_values) n
-  pub unchanged : (n : ℕ) → answer ≡ domain_variants.Refused n → (new_marks ≡ old_marks) × (new ≡ old) × (new_values ≡ old_values)
+pub record DomainCorrect (d : Domain) (old_marks : List Mark) (old old_values : List ℕ) (answer : Result Searched Refusal) (new_marks : List Mark)
+    (new new_values : List ℕ) : Type 0 where
+  -- a refusal is answered exactly where the condition of its number is the first that does not hold, and leaves marks, list and values as they were
+  pub refused : (r : Refusal) → (answer ≡ Err r) ↔ RefusedFor d (length old) (length old_values) (number_of r)
+  pub unchanged : (r : Refusal) → answer ≡ Err r → (new_marks ≡ old_marks) × (new ≡ old) × (new_values ≡ old_values)
   -- otherwise it is accepted, and there are places enough in both
-  pub searched : (v : Verdict) (n : ℕ) → (answer ≡ domain_variants.Searched v n)
+  pub searched : (s : Searched) → (answer ≡ Ok s)
       ↔ (Accepted d × (length (hard_arguments d) ≤ length old) × (length (hard_arguments d) ≤ length old_values)
-      × (v ≡ verdict regular (covering_of d)) × (n ≡ length (hard_arguments d)))
-  pub marked : (v : Verdict) (n : ℕ) → answer ≡ domain_variants.Searched v n → MarksCorrect d v new_marks
-  pub cleared : (n : ℕ) → answer ≡ domain_variants.Searched Clear n
-      → (n ≡ 0) × (new ≡ old) × (new_values ≡ old_values) × ((x : ℕ) → HardInNumbers d x → ⊥)
-  pub written : (v : Verdict) (n : ℕ) → answer ≡ domain_variants.Searched v n
+      × (s.first ≡ verdict regular (covering_of d)) × (s.listed ≡ length (hard_arguments d)))
+  pub marked : (s : Searched) → answer ≡ Ok s → MarksCorrect d s.first (mark_numbers new_marks)
+  pub cleared : (s : Searched) → answer ≡ Ok s → s.first ≡ Clear
+      → (s.listed ≡ 0) × (new ≡ old) × (new_values ≡ old_values) × ((x : ℕ) → HardInNumbers d x → ⊥)
+  pub written : (s : Searched) → answer ≡ Ok s
       → (new_marks ≡ marks_of d) × (new ≡ overwrite_front (listed_arguments d) old) × (new_values ≡ overwrite_front (hard_values d) old_values)
-  pub buffer : (v : Verdict) (n : ℕ) → answer ≡ domain_variants.Searched v n → BufferCorrect (listed_arguments d) old new
-  pub values_buffer : (v : Verdict) (n : ℕ) → answer ≡ domain_variants.Searched v n → BufferCorrect (hard_values d) old_values new_values
+  pub buffer : (s : Searched) → answer ≡ Ok s → BufferCorrect (listed_arguments d) old new
+  pub values_buffer : (s : Searched) → answer ≡ Ok s → BufferCorrect (hard_values d) old_values new_values
   -- from the call's numbers to what then lies in the caller's list, and that it ascends strictly there
-  pub hard : (v : Verdict) (n : ℕ) → answer ≡ domain_variants.Searched v n → Enumerates (ListedInNumbers d) n (take n new)
-  pub ascends : (v : Verdict) (n : ℕ) → answer ≡ domain_variants.Searched v n → (i j : ℕ) → i < j → j < n → get_or new i 0 < get_or new j 0
+  pub hard : (s : Searched) → answer ≡ Ok s → Enumerates (ListedInNumbers d) s.listed (take s.listed new)
+  pub ascends : (s : Searched) → answer ≡ Ok s → (i j : ℕ) → i < j → j < s.listed → get_or new i 0 < get_or new j 0
   -- and what lies beside each listed argument origin + x is V(x)
-  pub values : (v : Verdict) (n : ℕ) → answer ≡ domain_variants.Searched v n → (i : ℕ) → i < n → BesideInNumbers d (get_or new i 0) (get_or new_values i 0)
+  pub values : (s : Searched) → answer ≡ Ok s → (i : ℕ) → i < s.listed → BesideInNumbers d (get_or new i 0) (get_or new_values i 0)
   -- the places after them are as they were in both
-  pub after : (v : Verdict) (n : ℕ) → answer ≡ domain_variants.Searched v n → (i : ℕ) → n ≤ i
+  pub after : (s : Searched) → answer ≡ Ok s → (i : ℕ) → s.listed ≤ i
       → (get_or new i 0 ≡ get_or old i 0) × (get_or new_values i 0 ≡ get_or old_values i 0)
 
 -- with another origin `o`, a domain is answered the same, leaves the same marks and values, and each listed argument moves by the difference of the origins, where
 -- both are at most 2^52
-pub record OriginCorrect (d : Domain) (o : ℕ) (old_marks old old_values : List ℕ) : Type 0 where
+pub record OriginCorrect (d : Domain) (o : ℕ) (old_marks : List Mark) (old old_values : List ℕ) : Type 0 where
   -- it has the same other numbers
   pub is : with_origin o d
       ≡ record { origin = o; modulus = d.modulus; value = d.value; slope = d.slope; curve = d.curve; count = d.count; window = d.window }
   pub same_answer : domain_answer (with_origin o d) (length old) (length old_values) ≡ domain_answer d (length old) (length old_values)
   pub same_marks : marks_after (with_origin o d) (length old) (length old_values) old_marks ≡ marks_after d (length old) (length old_values) old_marks
   pub same_values : values_after (with_origin o d) (length old) old_values ≡ values_after d (length old) old_values
-  pub moved : (v : Verdict) (n : ℕ) → domain_answer d (length old) (length old_values) ≡ domain_variants.Searched v n → (i : ℕ) → i < n
+  pub moved : (s : Searched) → domain_answer d (length old) (length old_values) ≡ Ok s → (i : ℕ) → i < s.listed
       → get_or (list_after (with_origin o d) (length old_values) old) i 0 + d.origin ≡ get_or (list_after d (length old_values) old) i 0 + o
 
 -- what the scan of a segment is answered with a list `old` and values `old_values`, and what is then in them, `new` and `new_values`
-pub record ScanCorrect (s : Segment) (old old_values : List ℕ) (answer : ScanAnswer) (new new_values : List ℕ) : Type 0 where
-  pub refused : (n : ℕ) → (answer ≡ scan_variants.Refused n) ↔ ScanRefusedFor s (length old) (length old_values) n
-  pub unchanged : (n : ℕ) → answer ≡ scan_variants.Refused n → (new ≡ old) × (new_values ≡ old_values)
-  pub listed : (n : ℕ) → (answer ≡ scan_variants.Listed n)
+pub record ScanCorrect (s : Segment) (old old_values : List ℕ) (answer : Result ℕ Refusal) (new new_values : List ℕ) : Type 0 where
+  pub refused : (r : Refusal) → (answer ≡ Err r) ↔ ScanRefusedFor s (length old) (length old_values) (number_of r)
+  pub unchanged : (r : Refusal) → answer ≡ Err r → (new ≡ old) × (new_values ≡ old_values)
+  pub listed : (n : ℕ) → (answer ≡ Ok n)
       ↔ (segment.Accepted s × (length (geometry.hard_list s) ≤ length old) × (length (geometry.hard_list s) ≤ length old_values)
       × (n ≡ length (geometry.hard_list s)))
-  pub buffer : (n : ℕ) → answer ≡ scan_variants.Listed n → BufferCorrect (geometry.hard_list s) old new
-  pub values_buffer : (n : ℕ) → answer ≡ scan_variants.Listed n → BufferCorrect (hard_residues s) old_values new_values
-  pub hard : (n : ℕ) → answer ≡ scan_variants.Listed n → Enumerates (HardInSegment s.unit s.step s.start s.count s.window) n (take n new)
-  pub ascends : (n : ℕ) → answer ≡ scan_variants.Listed n → (i j : ℕ) → i < j → j < n → get_or new i 0 < get_or new j 0
-  pub values : (n : ℕ) → answer ≡ scan_variants.Listed n → (i : ℕ) → i < n
+  pub buffer : (n : ℕ) → answer ≡ Ok n → BufferCorrect (geometry.hard_list s) old new
+  pub values_buffer : (n : ℕ) → answer ≡ Ok n → BufferCorrect (hard_residues s) old_values new_values
+  pub hard : (n : ℕ) → answer ≡ Ok n → Enumerates (HardInSegment s.unit s.step s.start s.count s.window) n (take n new)
+  pub ascends : (n : ℕ) → answer ≡ Ok n → (i j : ℕ) → i < j → j < n → get_or new i 0 < get_or new j 0
+  pub values : (n : ℕ) → answer ≡ Ok n → (i : ℕ) → i < n
       → ResidueInSegment s.unit s.step s.start (get_or new i 0) (get_or new_values i 0)
-  pub after : (n : ℕ) → answer ≡ scan_variants.Listed n → (i : ℕ) → n ≤ i → (get_or new i 0 ≡ get_or old i 0) × (get_or new_values i 0 ≡ get_or old_values i 0)
+  pub after : (n : ℕ) → answer ≡ Ok n → (i : ℕ) → n ≤ i → (get_or new i 0 ≡ get_or old i 0) × (get_or new_values i 0 ≡ get_or old_values i 0)
 
 -- ---- all of it
 
@@ -255,28 +259,27 @@ pub record Promised : Type 0 where
       ≡ record { value = value_at p (suc x); slope = slope_at p (suc x) }
   pub phases : (d : Domain) → Searchable d → PhasesCorrect d
   -- 1 to 5 refuse a domain exactly where they refuse the segment with its slope for the step and its value for the start
-  pub refused_as_segment : (d : Domain) (list_places value_places n : ℕ) → 1 ≤ n → n ≤ 5
-      → (domain_answer d list_places value_places ≡ domain_variants.Refused n)
-      ↔ (segment.refusal (segment.asked d.modulus d.slope d.value d.count d.window) ≡ n)
+  pub refused_as_segment : (d : Domain) (list_places value_places : ℕ) (r : Refusal) → number_of r ≤ 5
+      → (domain_answer d list_places value_places ≡ Err r)
+      ↔ (segment.refusal (segment.asked d.modulus d.slope d.value d.count d.window) ≡ number_of r)
   -- counts that were accepted before document 02's 2.2, the multiples of 8 from 8 on, have the marks of before: by the verdict on each of eight parts of N/8
   -- arguments, of which none is without arguments
   pub marks_as_before : (d : Domain) → Searchable d → 8 ≤ d.count → d.count % 8 ≡ 0 → verdict regular (covering_of d) ≡ Possible → (i : ℕ) → i < 8
-      → get_or (marks_of d) i 0 ≡ mark_of (verdict fine (covering (continued (centred_of d) (i * (d.count / 8)) (d.count / 8))))
-  pub domains : (d : Domain) (old_marks old old_values : List ℕ)
+      → get_or (mark_numbers (marks_of d)) i 0 ≡ mark_number (mark_of (verdict fine (covering (continued (centred_of d) (i * (d.count / 8)) (d.count / 8)))))
+  pub domains : (d : Domain) (old_marks : List Mark) (old old_values : List ℕ)
       → DomainCorrect d old_marks old old_values (domain_answer d (length old) (length old_values))
       (marks_after d (length old) (length old_values) old_marks) (list_after d (length old_values) old) (values_after d (length old) old_values)
   -- nothing but the listed arguments depends on the origin
-  pub origins : (d : Domain) (o : ℕ) (old_marks old old_values : List ℕ) → d.origin ≤ 2 ^ 52 → o ≤ 2 ^ 52 → OriginCorrect d o old_marks old old_values
+  pub origins : (d : Domain) (o : ℕ) (old_marks : List Mark) (old old_values : List ℕ) → d.origin ≤ 2 ^ 52 → o ≤ 2 ^ 52 → OriginCorrect d o old_marks old old_values
   pub scans : (M a b N w : ℕ) (old old_values : List ℕ)
       → segment_promise.for_segment
       (λ s. ScanCorrect s old old_values (scan_answer M a b N w (length old) (length old_values))
       (scan_list_after M a b N w (length old_values) old) (scan_values_after M a b N w (length old) old_values)) M a b N w
   pub without_window : (d : Domain) → d.window ≡ 0 → WithoutWindow d
   -- 01's numbers and values for the cases of an answer: the refusal or 0, how many it listed or 0, phase 1's verdict
-  pub domain_numbers : (v : Verdict) (n : ℕ)
-      → (domain_refusal (domain_variants.Refused n) ≡ n) × (domain_refusal (domain_variants.Searched v n) ≡ 0)
-      × (domain_count (domain_variants.Refused n) ≡ 0) × (domain_count (domain_variants.Searched v n) ≡ n)
-      × (domain_first (domain_variants.Refused n) ≡ Possible) × (domain_first (domain_variants.Searched v n) ≡ v)
-  pub scan_numbers : (n : ℕ)
-      → (scan_refusal (scan_variants.Refused n) ≡ n) × (scan_refusal (scan_variants.Listed n) ≡ 0) × (scan_count (scan_variants.Refused n) ≡ 0)
-      × (scan_count (scan_variants.Listed n) ≡ n)
+  pub domain_numbers : (r : Refusal) (s : Searched)
+      → (number_in {A = Searched} (Err r) ≡ number_of r) × (number_in (Ok s) ≡ 0) × (domain_count (Err r) ≡ 0) × (domain_count (Ok s) ≡ s.listed)
+      × (domain_first (Err r) ≡ Possible) × (domain_first (Ok s) ≡ s.first)
+  pub mark_numbers_are : mark_numbers (mark.Unseen ∷ mark.Clear ∷ mark.Possible ∷ mark.Empty ∷ []) ≡ 0 ∷ 1 ∷ 2 ∷ 3 ∷ []
+  pub scan_numbers : (r : Refusal) (n : ℕ)
+      → (number_in {A = ℕ} (Err r) ≡ number_of r) × (number_in (Ok n) ≡ 0) × (scan_count (Err r) ≡ 0) × (scan_count (Ok n) ≡ n)

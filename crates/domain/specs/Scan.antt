@@ -2,7 +2,7 @@
 -- definitions.
 use Rattle.std.specs.Prelude.{List, map, ℕ, ◌+◌, ◌-◌, ◌%◌, ◌^◌, ◌≤◌, ◌<◌}
 use Rattle.parabola.specs.Parabola.{Parabola, value_at, hard_list}
-use Rattle.domain.specs.declared.scan.Point.{Point}
+use Rattle.arc.specs.declared.Point.{Point}
 
 -- the value and the slope of the next argument
 unfoldable pub next_point : (second modulus : ℕ) → Point → Point

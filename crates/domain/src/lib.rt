@@ -3,22 +3,25 @@
 // listed, each as origin + x and with its value, and a domain that is cleared has none. A segment's is hard where its residue is less than the window, on one side.
 #![tactic(auto)]
 
-ghost use Rattle.std.specs.Prelude.{◌≡◌, ◌^◌, ◌≤◌, ◌<◌, length};
+ghost use Rattle.std.specs.Prelude.{◌≡◌, ◌-◌, length};
 ghost use Rattle.expansion.specs.Reached.Search.{regular};
 ghost use Rattle.segment.specs.Search.{verdict};
 ghost use Rattle.segment.specs.declared.Verdict.TheVariants.{Possible};
-ghost use Rattle.parabola.specs.Parabola.{InRange, covering};
+ghost use Rattle.segment.specs.Accepted.{asked, Accepted as AcceptedSegment};
+ghost use Rattle.parabola.specs.Parabola.{covering, line};
 ghost use Rattle.arc.specs.Arc.{parabola};
-ghost use Rattle.domain.specs.Domain.{centred_of, Searchable};
+ghost use Rattle.domain.specs.Domain.{centred_of, Accepted};
 ghost use Rattle.domain.specs.Answer.{too_few, answer_with, marks_with, list_with, values_with, domain_answer, marks_after, list_after, values_after, scan_answer, scan_list_after, scan_values_after};
 
+mod marks;
 mod phases;
 mod scan;
 
-use arc::Arc;
-use numbers::min;
-use phases::{examine_parts, list_parts};
-use scan::{add, count_hard, list_all, list_hard, subtract};
+use arc::{Arc, Within};
+pub use marks::Mark;
+use numbers::{Refusal, add, min, subtract};
+use scan::{Scan, list_all};
+use segment::{Segment, Verdict};
 
 // 2^52.
 const LARGEST_ORIGIN: u64 = 4503599627370496;
@@ -35,165 +38,156 @@ pub struct Domain {
     pub window: u64,
 }
 
-// A refusal carries its number alone. Else: how many hard arguments were listed.
-#[derive(Clone, Copy)]
-pub enum ScanAnswer {
-    Refused(u32),
-    Listed(u32),
-}
-
-// A refusal carries its number alone. Else: the verdict of phase 1, where clear clears the whole domain, and how many hard arguments were listed.
-#[derive(Clone, Copy)]
-pub enum DomainAnswer {
-    Refused(u32),
-    Searched {
-        first: segment::Verdict,
-        listed: u32,
-    },
+// What a search of a domain finds: the verdict of phase 1, where clear clears the whole domain, and how many hard arguments were listed.
+#[derive(Clone, Copy, Debug, PartialEq, Eq)]
+pub struct Searched {
+    pub first: Verdict,
+    pub listed: u32,
 }
 
 // Lists the hard arguments of the segment (start - step·x) mod modulus, ascending from the first place of the list, and beside each, at the same place of the values,
-// its residue; the places after them are left as they were. Refused as a search of the segment is, and else by 7 where the list or the values have fewer places than
-// there are hard arguments: on a refusal both are as they were.
-pub fn scan_segment(
-    modulus: u64,
-    step: u64,
-    start: u64,
-    count: u64,
-    window: u64,
-    list: &mut [u64],
-    values: &mut [u64],
-) -> ScanAnswer
-    ensures value { result ≡ scan_answer modulus step start count window (length list.old) (length values.old) }
-    ensures list_after { list.new ≡ scan_list_after modulus step start count window (length values.old) list.old }
-    ensures values_after { values.new ≡ scan_values_after modulus step start count window (length list.old) values.old }
+// its residue; the places after them are left as they were. The answer is how many there are. Refused as a search of the segment is, and else for room where the list
+// or the values have fewer places than there are hard arguments: on a refusal both are as they were.
+pub fn scan_segment(segment: Segment, list: &mut [u64], values: &mut [u64]) -> Result<u32, Refusal>
+    ensures value { result ≡ scan_answer segment.modulus segment.step segment.start segment.count segment.window (length list.old) (length values.old) }
+    ensures list_after { list.new ≡ scan_list_after segment.modulus segment.step segment.start segment.count segment.window (length values.old) list.old }
+    ensures values_after { values.new ≡ scan_values_after segment.modulus segment.step segment.start segment.count segment.window (length list.old) values.old }
 {
-    let number = segment::refuse(modulus, step, start, count, window);
-    if number != 0 {
-        return ScanAnswer::Refused(number);
-    }
-    let line = Arc {
-        modulus: modulus,
-        value: start,
-        slope: subtract(0, step, modulus),
-        curve: 0,
-        count: count,
-        highest: window - 1,
-    };
+    segment::refuse(segment)?;
+    let line = line(segment);
     let places = min(list.len() as u64, values.len() as u64);
-    let listed = count_hard(line);
+    let listed = line.count_hard();
     if places < listed as u64 {
-        return ScanAnswer::Refused(7);
+        return Err(Refusal::Room);
     }
-    if listed as u64 == count {
-        list_all(line, list, values);
-        return ScanAnswer::Listed(listed);
+    if listed as u64 == segment.count {
+        list_all(line.within, list, values);
+        return Ok(listed);
     }
-    list_hard(line, 0, 0, listed, list, values, 0);
-    ScanAnswer::Listed(listed)
+    line.list_hard(listed, list, values, 0);
+    Ok(listed)
+}
+
+// A segment that nothing refuses, as a line: it falls by the step, modulo M.
+fn line(segment: Segment) -> Scan
+    requires { AcceptedSegment (asked segment.modulus segment.step segment.start segment.count segment.window) }
+    ensures made { parabola result.within.arc ≡ line (asked segment.modulus segment.step segment.start segment.count segment.window) }
+    ensures raise { result.raise ≡ 0 }
+    ensures begin { result.begin ≡ 0 }
+{
+    let within = Within {
+        arc: Arc {
+            modulus: segment.modulus,
+            value: segment.start,
+            slope: subtract(0, segment.step, segment.modulus),
+            curve: 0,
+            count: segment.count,
+            highest: segment.window - 1,
+        },
+    };
+    Scan {
+        within,
+        raise: 0,
+        begin: 0,
+    }
 }
 
 // Searches a domain in three phases: the whole of it; if that is possible, each of eight parts; and all arguments of the parts that are
-// possible. Each part has an eighth of the arguments, rounded down, and the first ones have one more until the rest is used up. The marks become 0
-// where parts are not looked at, 1 for a part that is clear, 2 for one that is possible and was scanned, 3 for one that has no argument. The hard
-// arguments x are listed as by a scan, each as origin + x, and beside each, at the same place of the values, V(x).
-// Refused: 1 where the modulus is outside 2 to 2^62, else 2 where the slope is not below it, else 3 where the value is not, else 4 where the
-// count is outside 1 to 1,048,576, else 5 where the window is outside 1 to the modulus, else 6 where the curve is outside -1,048,576 to 1,048,576, else 11
-// where the origin is above 2^52, else 7 where the list or the values have fewer places than there are hard arguments. On a refusal marks, list and values are as
-// they were.
+// possible. Each part has an eighth of the arguments, rounded down, and the first ones have one more until the rest is used up. The marks tell what was found of
+// each part. The hard arguments x are listed as by a scan, each as origin + x, and beside each, at the same place of the values, V(x).
+// Refused: for a modulus outside 2 to 2^62, else for a slope or a value that is not below it (by the names `Step` and `Start`), else for a count outside 1 to
+// 1,048,576, else for a window outside 1 to the modulus, else for a curve outside -1,048,576 to 1,048,576, else for an origin above 2^52, else for room where the list
+// or the values have fewer places than there are hard arguments. On a refusal marks, list and values are as they were.
 pub fn search_domain(
     domain: Domain,
-    marks: &mut [u8; 8],
+    marks: &mut [Mark; 8],
     list: &mut [u64],
     values: &mut [u64],
-) -> DomainAnswer
+) -> Result<Searched, Refusal>
     ensures value { result ≡ domain_answer domain (length list.old) (length values.old) }
     ensures marks_after { marks.new ≡ marks_after domain (length list.old) (length values.old) marks.old }
     ensures list_after { list.new ≡ list_after domain (length values.old) list.old }
     ensures values_after { values.new ≡ values_after domain (length list.old) values.old }
 {
-    let number = arc::refuse(
+    arc::refuse(
         domain.modulus,
         domain.value,
         domain.slope,
         domain.curve,
         domain.count,
         domain.window,
-    );
-    if number != 0 {
-        return DomainAnswer::Refused(number);
-    }
+    )?;
     if LARGEST_ORIGIN < domain.origin {
-        return DomainAnswer::Refused(11);
+        return Err(Refusal::Origin);
     }
-    let arc = centred(domain);
-    let raised_by = domain.window - 1;
+    let scan = centred(domain);
     // Where every value is hard, no search can clear the domain. docs/DECISIONS.md says why this is a call of its own.
-    if arc.highest == domain.modulus - 1 {
-        search_parts(arc, domain.origin, raised_by, marks, list, values)
+    if scan.within.arc.highest == domain.modulus - 1 {
+        search_parts(scan, marks, list, values)
     } else {
-        match arc::regular_verdict(arc) {
-            segment::Verdict::Clear => {
-                *marks = [0u8; 8];
-                return DomainAnswer::Searched {
-                    first: segment::Verdict::Clear,
+        match scan.within.regular_verdict() {
+            Verdict::Clear => {
+                *marks = [Mark::Unseen; 8];
+                Ok(Searched {
+                    first: Verdict::Clear,
                     listed: 0,
-                };
+                })
             }
-            segment::Verdict::Possible => {
-                search_parts(arc, domain.origin, raised_by, marks, list, values)
-            }
+            Verdict::Possible => search_parts(scan, marks, list, values),
         }
     }
 }
 
 // What the phases search. Raised by w - 1, the values that lie less than w from a multiple of the modulus are those up to 2(w - 1), or all of them: one
 // test for both sides.
-fn centred(domain: Domain) -> Arc
-    requires { Searchable domain }
-    ensures { parabola result ≡ centred_of domain }
+fn centred(domain: Domain) -> Scan
+    requires { Accepted domain }
+    ensures made { parabola result.within.arc ≡ centred_of domain }
+    ensures raise { result.raise ≡ domain.window - 1 }
+    ensures begin { result.begin ≡ domain.origin }
 {
     let raise = domain.window - 1;
-    Arc {
-        modulus: domain.modulus,
-        value: add(domain.value, raise, domain.modulus),
-        slope: domain.slope,
-        curve: domain.curve,
-        count: domain.count,
-        highest: min(domain.modulus - 1, raise + raise),
+    let within = Within {
+        arc: Arc {
+            modulus: domain.modulus,
+            value: add(domain.value, raise, domain.modulus),
+            slope: domain.slope,
+            curve: domain.curve,
+            count: domain.count,
+            highest: min(domain.modulus - 1, raise + raise),
+        },
+    };
+    Scan {
+        within,
+        raise,
+        begin: domain.origin,
     }
 }
 
-// Phases 2 and 3 of an arc that phase 1 does not clear, and whose values were raised: the hard arguments are counted before anything is written. Each is listed as
-// origin + x.
+// Phases 2 and 3 of an arc that phase 1 does not clear: the hard arguments are counted before anything is written.
 fn search_parts(
-    arc: Arc,
-    origin: u64,
-    raise: u64,
-    marks: &mut [u8; 8],
+    scan: Scan,
+    marks: &mut [Mark; 8],
     list: &mut [u64],
     values: &mut [u64],
-) -> DomainAnswer
-    requires in_range { InRange (parabola arc) }
-    requires not_cleared { verdict regular (covering (parabola arc)) ≡ Possible }
-    requires origin_bound { origin ≤ 2 ^ 52 }
-    requires raise_below { raise < arc.modulus }
-    ensures value { result ≡ answer_with (too_few (parabola arc) (length list.old) (length values.old)) (parabola arc) }
-    ensures marks_after { marks.new ≡ marks_with (too_few (parabola arc) (length list.old) (length values.old)) (parabola arc) marks.old }
-    ensures list_after { list.new ≡ list_with (too_few (parabola arc) (length list.old) (length values.old)) origin (parabola arc) list.old }
-    ensures values_after { values.new ≡ values_with (too_few (parabola arc) (length list.old) (length values.old)) raise (parabola arc) values.old }
+) -> Result<Searched, Refusal>
+    requires { verdict regular (covering (parabola scan.within.arc)) ≡ Possible }
+    ensures value { result ≡ answer_with (too_few (parabola scan.within.arc) (length list.old) (length values.old)) (parabola scan.within.arc) }
+    ensures marks_after { marks.new ≡ marks_with (too_few (parabola scan.within.arc) (length list.old) (length values.old)) (parabola scan.within.arc) marks.old }
+    ensures list_after { list.new ≡ list_with (too_few (parabola scan.within.arc) (length list.old) (length values.old)) scan.begin (parabola scan.within.arc) list.old }
+    ensures values_after { values.new ≡ values_with (too_few (parabola scan.within.arc) (length list.old) (length values.old)) scan.raise (parabola scan.within.arc) values.old }
 {
     let places = min(list.len() as u64, values.len() as u64);
-    let report = examine_parts(arc);
+    let report = scan.examine_parts();
     if places < report.total as u64 {
-        return DomainAnswer::Refused(7);
+        return Err(Refusal::Room);
     }
     let found = report.marks;
     *marks = found;
     let hard = report.hard;
-    list_parts(arc, origin, raise, hard, list, values);
-    DomainAnswer::Searched {
-        first: segment::Verdict::Possible,
+    scan.list_parts(hard, list, values);
+    Ok(Searched {
+        first: Verdict::Possible,
         listed: report.total,
-    }
+    })
 }

@@ -1,18 +1,21 @@
 // Scans: the hard arguments of an arc counted, and listed with their values, by going from each value to the next.
-ghost use Rattle.std.specs.Prelude.{◌≡◌, ◌+◌, ◌-◌, ◌%◌, ◌^◌, ◌≤◌, ◌<◌, length};
+ghost use Rattle.std.specs.Prelude.{◌≡◌, ◌+◌, ◌%◌, ◌^◌, ◌≤◌, ◌<◌, length};
 ghost use Rattle.std.proofs.lemmas.List.Edits.{sets};
-ghost use Rattle.parabola.specs.Parabola.{InRange, hard_list};
+ghost use Rattle.parabola.specs.Parabola.{hard_list};
 ghost use Rattle.arc.specs.Arc.{parabola};
 ghost use Rattle.domain.specs.Scan.{PointBelow, next_point, listed_from, lowered_values};
 
-use arc::Arc;
-use numbers::remainder;
+use arc::{Point, Within};
+use numbers::{add, remainder, subtract};
 
-// A value of an arc, and the slope there, which leads to the next value.
+// An arc to be scanned: its argument x is listed as begin + x, and its value as it was before the arc was raised.
 #[derive(Clone, Copy)]
-struct Point {
-    value: u64,
-    slope: u64,
+pub(crate) struct Scan {
+    pub(crate) within: Within,
+    pub(crate) raise: u64,
+    pub(crate) begin: u64,
+    pub(crate) ghost raise_below: { raise < within.arc.modulus },
+    pub(crate) ghost end_bound: { begin + within.arc.count ≤ 2 ^ 53 },
 }
 
 // A line keeps its slope. The compiler takes this test out of a scan's loop and makes two loops of it.
@@ -32,19 +35,7 @@ fn next(point: Point, second: u64, modulus: u64) -> Point
     }
 }
 
-// a + b modulo M.
-pub(crate) fn add(a: u64, b: u64, modulus: u64) -> u64
-    requires { (a < modulus) × (b < modulus) × (modulus ≤ 2 ^ 62) }
-    ensures { result ≡ (a + b) % modulus }
-{
-    let sum = a + b;
-    if sum < modulus {
-        return sum;
-    }
-    sum - modulus
-}
-
-// The same where b stays as it is in a loop: what the modulus exceeds it by is known before a is, and the test need not wait for the sum.
+// a + b modulo M where b stays as it is in a loop: what the modulus exceeds it by is known before a is, and the test need not wait for the sum, as in `add`.
 fn add_fixed(a: u64, b: u64, modulus: u64) -> u64
     requires { (a < modulus) × (b < modulus) × (modulus ≤ 2 ^ 62) }
     ensures { result ≡ (a + b) % modulus }
@@ -56,105 +47,79 @@ fn add_fixed(a: u64, b: u64, modulus: u64) -> u64
     a - rest
 }
 
-// a - b modulo M. Where b is known to be 0, the compiler sees that there is nothing to do.
-pub(crate) fn subtract(a: u64, b: u64, modulus: u64) -> u64
-    requires { (a < modulus) × (b < modulus) }
-    ensures { result ≡ (a + (modulus - b)) % modulus }
-{
-    if b <= a {
-        return a - b;
-    }
-    modulus - (b - a)
-}
-
-// How many hard arguments there are. Where no value is above the highest hard one, every argument is hard, and none need be visited.
-pub(crate) fn count_hard(arc: Arc) -> u32
-    requires { InRange (parabola arc) }
-    ensures { result ≡ length (hard_list (parabola arc)) }
-{
-    if arc.highest == arc.modulus - 1 {
-        return arc.count as u32;
-    }
-    let second = remainder(arc.curve, arc.modulus);
-    let mut point = Point {
-        value: arc.value,
-        slope: arc.slope,
-    };
-    let mut x: u64 = 0;
-    let mut number: u32 = 0;
-    while x < arc.count {
-        number = number + (point.value <= arc.highest) as u32;
-        point = next(point, second, arc.modulus);
-        x = x + 1;
-    }
-    number
-}
-
-// Writes the hard arguments, of which there are `number`, into the list from a place on, each larger by `begin`, which stands for the arc's first argument, and beside
-// each its value as it was before the arc was raised. It ends with the last of them. The next value is formed before this one is written, so that the sum and the writes overlap.
-pub(crate) fn list_hard(
-    arc: Arc,
-    raise: u64,
-    begin: u64,
-    number: u32,
-    list: &mut [u64],
-    values: &mut [u64],
-    place: usize,
-)
-    requires in_range { InRange (parabola arc) }
-    requires raise_below { raise < arc.modulus }
-    requires number_counted { number ≡ length (hard_list (parabola arc)) }
-    requires begin_bound { begin ≤ 2 ^ 53 }
-    requires list_room { place + number ≤ length list.old }
-    requires values_room { place + number ≤ length values.old }
-    ensures list_after { list.new ≡ sets list.old place (listed_from begin (parabola arc)) }
-    ensures values_after { values.new ≡ sets values.old place (lowered_values raise (parabola arc)) }
-{
-    let second = remainder(arc.curve, arc.modulus);
-    let mut point = Point {
-        value: arc.value,
-        slope: arc.slope,
-    };
-    let end = place + number as usize;
-    let mut at = place;
-    let mut x = begin;
-    while at < end {
-        let value = point.value;
-        point = next(point, second, arc.modulus);
-        if value <= arc.highest {
-            list[at] = x;
-            values[at] = subtract(value, raise, arc.modulus);
-            at = at + 1;
+impl Scan {
+    // How many hard arguments there are. Where no value is above the highest hard one, every argument is hard, and none need be visited.
+    pub(crate) fn count_hard(self) -> u32
+        ensures { result ≡ length (hard_list (parabola self.within.arc)) }
+    {
+        let arc = self.within.arc;
+        if arc.highest == arc.modulus - 1 {
+            return arc.count as u32;
         }
-        x = x + 1;
+        let second = remainder(arc.curve, arc.modulus);
+        let mut point = Point {
+            value: arc.value,
+            slope: arc.slope,
+        };
+        let mut number: u32 = 0;
+        for x in 0..arc.count {
+            number += (point.value <= arc.highest) as u32;
+            point = next(point, second, arc.modulus);
+        }
+        number
+    }
+
+    // Writes the hard arguments, of which there are `number`, into the list from a place on, and beside each its value. It ends with the last of them. The next value
+    // is formed before this one is written, so that the sum and the writes overlap.
+    pub(crate) fn list_hard(self, number: u32, list: &mut [u64], values: &mut [u64], place: usize)
+        requires number_counted { number ≡ length (hard_list (parabola self.within.arc)) }
+        requires list_room { place + number ≤ length list.old }
+        requires values_room { place + number ≤ length values.old }
+        ensures list_after { list.new ≡ sets list.old place (listed_from self.begin (parabola self.within.arc)) }
+        ensures values_after { values.new ≡ sets values.old place (lowered_values self.raise (parabola self.within.arc)) }
+    {
+        let arc = self.within.arc;
+        let second = remainder(arc.curve, arc.modulus);
+        let mut point = Point {
+            value: arc.value,
+            slope: arc.slope,
+        };
+        let end = place + number as usize;
+        let mut at = place;
+        let mut x = self.begin;
+        while at < end {
+            let value = point.value;
+            point = next(point, second, arc.modulus);
+            if value <= arc.highest {
+                list[at] = x;
+                values[at] = subtract(value, self.raise, arc.modulus);
+                at += 1;
+            }
+            x += 1;
+        }
     }
 }
 
-// The same for an arc that is not raised, whose arguments are all hard, from the first place on. There is nothing to test. Each column has its own
+// The same where all arguments are hard, from the first place on, of an arc that is not raised and begins at 0. There is nothing to test. Each column has its own
 // loop: the arguments need no values, so the compiler writes several at once.
-pub(crate) fn list_all(arc: Arc, list: &mut [u64], values: &mut [u64])
-    requires in_range { InRange (parabola arc) }
-    requires all_hard { length (hard_list (parabola arc)) ≡ arc.count }
-    requires list_room { arc.count ≤ length list.old }
-    requires values_room { arc.count ≤ length values.old }
-    ensures list_after { list.new ≡ sets list.old 0 (listed_from 0 (parabola arc)) }
-    ensures values_after { values.new ≡ sets values.old 0 (lowered_values 0 (parabola arc)) }
+pub(crate) fn list_all(within: Within, list: &mut [u64], values: &mut [u64])
+    requires all_hard { length (hard_list (parabola within.arc)) ≡ within.arc.count }
+    requires list_room { within.arc.count ≤ length list.old }
+    requires values_room { within.arc.count ≤ length values.old }
+    ensures list_after { list.new ≡ sets list.old 0 (listed_from 0 (parabola within.arc)) }
+    ensures values_after { values.new ≡ sets values.old 0 (lowered_values 0 (parabola within.arc)) }
 {
-    let end = arc.count;
-    let mut x: u64 = 0;
-    while x < end {
+    let arc = within.arc;
+    for x in 0..arc.count {
         list[x as usize] = x;
-        x = x + 1;
     }
     let second = remainder(arc.curve, arc.modulus);
     let mut point = Point {
         value: arc.value,
         slope: arc.slope,
     };
-    x = 0;
-    while x < end {
+    for x in 0..arc.count {
         values[x as usize] = point.value;
         point = next(point, second, arc.modulus);
-        x = x + 1;
     }
 }

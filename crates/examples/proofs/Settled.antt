@@ -12,22 +12,20 @@ use Rattle.numbers.specs.Unit.{ranged}
 use Rattle.numbers.specs.Lists.{zero_padded, filter_range, tabulate, overwrite_front}
 use Rattle.expansion.specs.Rows.{rows_from, expansion, last, remainder_at, denominator_at, period}
 use Rattle.expansion.specs.Configurations.{regular_from, regular, parts_from, fine_from, fine}
-use Rattle.expansion.specs.Answer.{refusal, answer_with, answer}
+use Rattle.expansion.specs.Answer.{refusal, answer}
 use Rattle.expansion.specs.Reached.{configurations_of, reached_in, reached}
 use Rattle.ostrowski.specs.Digits.{digits_over, digits_of, residue_of, arguments_of, argument_of}
-use Rattle.ostrowski.specs.Answer.{argument_refusal, target_refusal, digits_answer_with, number_answer_with, digits_answer, residue_answer, divide_answer}
+use Rattle.ostrowski.specs.Answer.{argument_refusal, target_refusal, digits_answer, residue_answer, divide_answer}
 use Rattle.geometry.specs.Segment as geometry
 use Rattle.geometry.specs.Segment.{residue}
 use Rattle.segment.specs.Accepted as segments
 use Rattle.segment.specs.Search.{least_from, argument, distance, verdict_at}
-use Rattle.segment.specs.Answer.{regular_shown, fine_shown, regular_answer_with, fine_answer_with, regular_answer, fine_answer}
-use Rattle.segment.specs.declared.RegularAnswer.TheVariants as regular_variants
-use Rattle.segment.specs.declared.FineAnswer.TheVariants as fine_variants
+use Rattle.segment.specs.Answer.{regular_shown, fine_shown, regular_answer, fine_answer}
 use Rattle.segment.proofs.Laws.{verdict_iff, regular_shows, fine_shows}
 use Rattle.parabola.specs.Parabola as parabola
 use Rattle.parabola.specs.Parabola.{triangle, value_at, slope_at, spread, covering_step, start_over, covering_start, covering_window, continued, part_count, part_start}
 use Rattle.domain.specs.Phases.{mark_of, mark_with, marks_by}
-use Rattle.domain.specs.Answer.{domain_number, answer_with as domain_answer_with, domain_answer, marks_after, list_after, values_after, scan_number, scan_answer_with, scan_answer, scan_list_after, scan_values_after}
+use Rattle.domain.specs.Answer.{domain_number, domain_answer, marks_after, list_after, values_after, scan_number, scan_answer, scan_list_after, scan_values_after}
 use Rattle.text.specs.Text.{decimal_within, decimal}
 use Rattle.text.specs.Reading.{starts, takes_digit, digits_from, number_from, field_at, unsigned, opposite, signed_from, signed_field_at}
 use Rattle.job.specs.Reading.{rest_from, lines_from, reading}
@@ -35,7 +33,7 @@ use Rattle.job.specs.Output.{verdict_name, argument_lines, refused, report, prin
 use Rattle.examples.specs.Settled.{RegularShows, FineShows, Example1, Example6, Example7, Example8, Example9, Example10, Example11, BothSides, AnyLength, WindowsFrom1, ValuesBesideArguments, CountedFromTheBinade, DigitsAndDivision, Settled}
 
 example_1 : Example1
-unfolding dec_le dec_lt Dec.and ranged first_failing rows_from expansion zero_padded refusal answer_with answer regular_from regular parts_from fine_from fine
+unfolding dec_le dec_lt Dec.and ranged first_failing rows_from expansion zero_padded refusal outcome named answer regular_from regular parts_from fine_from fine
 example_1 =
     record {
       remainders_are = refl;
@@ -54,16 +52,16 @@ module _ (M a b N : ℕ) (accepted : (w : ℕ) → 1 ≤ w → w ≤ M → segme
       ≡ record { count = n; quotients = i; distance = d; argument = x; verdict = verdict_at d w }) → RegularShows M a b N n i d x
   regular_for_all shown =
       record {
-        clear = λ w l m h. regular_shows M a b N w (accepted w l m) ∙ ap regular_variants.Shown (shown w) ∙ rw ((verdict_iff d w).0.1 h);
-        possible = λ w l m h. regular_shows M a b N w (accepted w l m) ∙ ap regular_variants.Shown (shown w) ∙ rw ((verdict_iff d w).1.1 h);
+        clear = λ w l m h. regular_shows M a b N w (accepted w l m) ∙ ap Ok (shown w) ∙ rw ((verdict_iff d w).0.1 h);
+        possible = λ w l m h. regular_shows M a b N w (accepted w l m) ∙ ap Ok (shown w) ∙ rw ((verdict_iff d w).1.1 h);
       }
 
   fine_for_all : {t : ℕ} → ((w : ℕ) → fine_shown (segments.asked M a b N w)
       ≡ record { count = n; index = i; part = t; distance = d; argument = x; verdict = verdict_at d w }) → FineShows M a b N n i t d x
   fine_for_all shown =
       record {
-        clear = λ w l m h. fine_shows M a b N w (accepted w l m) ∙ ap fine_variants.Shown (shown w) ∙ rw ((verdict_iff d w).0.1 h);
-        possible = λ w l m h. fine_shows M a b N w (accepted w l m) ∙ ap fine_variants.Shown (shown w) ∙ rw ((verdict_iff d w).1.1 h);
+        clear = λ w l m h. fine_shows M a b N w (accepted w l m) ∙ ap Ok (shown w) ∙ rw ((verdict_iff d w).0.1 h);
+        possible = λ w l m h. fine_shows M a b N w (accepted w l m) ∙ ap Ok (shown w) ∙ rw ((verdict_iff d w).1.1 h);
       }
 
 example_6 : Example6
@@ -89,7 +87,7 @@ example_8 =
 -- ---- scans and domains
 
 example_9 : Example9
-unfolding dec_le dec_lt Dec.and ranged first_failing unless_refused filter_range overwrite_front residue geometry.is_hard geometry.hard_list scan_number scan_answer_with scan_answer scan_list_after scan_values_after
+unfolding dec_le dec_lt Dec.and ranged first_failing outcome named unless_refused filter_range overwrite_front residue geometry.is_hard geometry.hard_list scan_number scan_answer scan_list_after scan_values_after
 example_9 =
     record {
       hard_6 = refl;
@@ -109,7 +107,7 @@ example_9 =
     }
 
 domains : Example10 × Example11 × BothSides × AnyLength × WindowsFrom1 × ValuesBesideArguments × CountedFromTheBinade
-unfolding dec_le dec_lt Dec.and ranged first_failing unless_refused rows_from expansion regular_from regular parts_from fine_from fine configurations_of reached_in reached residue least_from argument distance verdict_at segments.refusal regular_shown fine_shown regular_answer_with fine_answer_with regular_answer fine_answer filter_range tabulate overwrite_front ◌modulo◌ triangle value_at slope_at geometry.is_hard geometry.hard_list parabola.is_hard parabola.hard_list parabola.centred spread covering_step start_over covering_start covering_window continued part_count part_start mark_of mark_with marks_by scan_number scan_answer_with scan_answer scan_list_after scan_values_after domain_number domain_answer_with domain_answer marks_after list_after values_after decimal_within decimal starts takes_digit digits_from number_from field_at unsigned opposite signed_from signed_field_at rest_from lines_from reading verdict_name argument_lines refused report printed_for printed output_with output_of
+unfolding dec_le dec_lt Dec.and ranged first_failing outcome named unless_refused rows_from expansion regular_from regular parts_from fine_from fine configurations_of reached_in reached residue least_from argument distance verdict_at segments.refusal regular_shown fine_shown regular_answer fine_answer filter_range tabulate overwrite_front ◌modulo◌ triangle value_at slope_at geometry.is_hard geometry.hard_list parabola.is_hard parabola.hard_list parabola.centred spread covering_step start_over covering_start covering_window continued part_count part_start mark_of mark_with marks_by scan_number scan_answer scan_list_after scan_values_after domain_number domain_answer marks_after list_after values_after decimal_within decimal starts takes_digit digits_from number_from field_at unsigned opposite signed_from signed_field_at rest_from lines_from reading verdict_name argument_lines refused report printed_for printed output_with output_of
 domains = (
   record {
     prints = refl;
@@ -271,7 +269,7 @@ domains = (
 -- ---- digits and modular division
 
 digits_and_division : DigitsAndDivision
-unfolding dec_le dec_lt dec_dvd ℕ_discrete Dec.and ranged first_failing gcd_from gcd rows_from expansion last remainder_at denominator_at period zero_padded filter_range alternating_sum ◌modulo◌ digits_over digits_of residue_of arguments_of argument_of argument_refusal target_refusal digits_answer_with number_answer_with digits_answer residue_answer divide_answer
+unfolding dec_le dec_lt dec_dvd ℕ_discrete Dec.and ranged first_failing outcome named gcd_from gcd rows_from expansion last remainder_at denominator_at period zero_padded filter_range alternating_sum ◌modulo◌ digits_over digits_of residue_of arguments_of argument_of argument_refusal target_refusal digits_answer residue_answer divide_answer
 digits_and_division =
     record {
       of_15 = refl;
@@ -322,7 +320,7 @@ digits_and_division =
     }
 
 pub settled : Settled
-unfolding dec_le dec_lt Dec.and ranged first_failing segments.refusal rows_from expansion regular_from regular parts_from fine_from fine configurations_of reached_in reached residue least_from argument distance verdict_at regular_shown fine_shown regular_answer_with fine_answer_with regular_answer fine_answer
+unfolding dec_le dec_lt Dec.and ranged first_failing outcome named segments.refusal rows_from expansion regular_from regular parts_from fine_from fine configurations_of reached_in reached residue least_from argument distance verdict_at regular_shown fine_shown regular_answer fine_answer
 settled =
     record {
       p1 = example_1;

@@ -2,7 +2,7 @@
 #![tactic(auto)]
 
 ghost use Rattle.std.specs.Prelude.{◌≡◌, ◌≤◌, ◌<◌, ◌^◌};
-ghost use Rattle.numbers.specs.Refusals.{outcome};
+ghost use Rattle.numbers.specs.Refusals.{tested};
 ghost use Rattle.expansion.specs.Rows.{expansion};
 ghost use Rattle.expansion.specs.Answer.{refusal, table_of, answer};
 
@@ -30,7 +30,7 @@ pub fn expand(modulus: u64, step: u64) -> Result<Table, Refusal>
 
 // The first condition that does not hold: a modulus from 2 to 2^62, then a step below it.
 pub fn refuse(modulus: u64, step: u64) -> Result<(), Refusal>
-    ensures { result ≡ outcome (refusal modulus step) tt }
+    ensures { result ≡ tested (refusal modulus step) }
 {
     if modulus < 2 || LARGEST_MODULUS < modulus {
         return Err(Refusal::Modulus);

@@ -17,7 +17,8 @@ fn main(rt: HostRuntime) {
 }
 
 // Reads until the buffer is full, the input ends or a read fails, and answers how many bytes it put
-// at the front of the buffer.
+// at the front of the buffer. A loop by hand: std's read_to_end wants a heap, and read_exact says
+// nothing of an input that is shorter.
 fn read_front<R: Read>(input: &mut R, buffer: &mut [u8]) -> usize
     ensures { result ≤ length buffer.new }
 {

@@ -6,6 +6,7 @@ use Prim.Native.Nat.{ℕ, ◌+◌, ◌*◌, ◌^◌, ◌≤◌, ◌<◌}
 use native.Mathlib.Omega.{arith}
 use lib.ListN.{length, take, replicate, length-append, length-replicate, length-map}
 use lib.Seq.{sets}
+use Rattle.std.proofs.Common.{Option, Some, None}
 use Rattle.numbers.specs.Lists.{overwrite_front, place_after}
 use Rattle.numbers.specs.Promise.{Enumerates}
 use Rattle.numbers.proofs.Lists.{member_place}
@@ -24,8 +25,6 @@ use Rattle.text.specs.Text.{decimal}
 use Rattle.text.proofs.Promises as text
 use Rattle.job.specs.Reading.{reading, reading_refusal}
 use Rattle.job.specs.Output.{places, longest, answer_of, verdict_name, SmallMarks, argument_line, argument_lines, refused, report, printed_for, printed, job_answer, job_marks, job_list, job_values, output_with, output_of}
-use Rattle.job.specs.declared.Reading.{Reading}
-use Rattle.job.specs.declared.Reading.TheVariants.{Read, Malformed}
 
 -- ---- how long
 
@@ -167,23 +166,23 @@ unfolding printed printed_for
 printed_report d e = rw e
 
 -- where the search refuses, the line of the refusal is printed
-pub output_refused : (job : Reading) {n : ℕ} → job_answer job places places ≡ Refused n → output_with job ≡ refused n
+pub output_refused : (job : Option Domain) {n : ℕ} → job_answer job places places ≡ Refused n → output_with job ≡ refused n
 unfolding job_answer output_with
-output_refused (Read d) e = printed_refused d e
-output_refused Malformed {n} e = let same : reading_refusal Malformed ≡ n = cc in ap refused same
+output_refused (Some d) e = printed_refused d e
+output_refused None {n} e = let same : reading_refusal None ≡ n = cc in ap refused same
 
 -- where it does not, what is printed is in the marks and at the fronts of list and values
-pub record Reported (job : Reading) (first : Verdict) (listed : ℕ) (marks list values : List ℕ) : Type 0 where
+pub record Reported (job : Option Domain) (first : Verdict) (listed : ℕ) (marks list values : List ℕ) : Type 0 where
   pub eight : length marks ≡ 8
   pub small : SmallMarks marks
   pub within : listed ≤ length list
   pub values_within : listed ≤ length values
   pub output : output_with job ≡ report first marks (take listed list) (take listed values)
 
-pub output_reported : (job : Reading) {first : Verdict} {listed : ℕ} → job_answer job places places ≡ Searched first listed
+pub output_reported : (job : Option Domain) {first : Verdict} {listed : ℕ} → job_answer job places places ≡ Searched first listed
     → Reported job first listed (job_marks job places places (replicate 8 0)) (job_list job places (replicate places 0)) (job_values job places (replicate places 0))
 unfolding job_answer job_marks job_list job_values output_with
-output_reported (Read d) e =
+output_reported (Some d) e =
     rw (marks_are d e)
     (record {
       eight = (marks_correct d e).eight;
@@ -192,10 +191,10 @@ output_reported (Read d) e =
       values_within = values_long d e;
       output = printed_report d e ∙ rw (hard_in_front d e, values_in_front d e);
     })
-output_reported Malformed e = let z : ◌≡◌ {A = ℕ} 0 1 = cc in absurd (omega arith)
+output_reported None e = cc
 
 -- what is printed, by what the search left
-pub output_from : {job : Reading} {first : Verdict} {listed : ℕ} {marks list values marks' list' values' : List ℕ} → Reported job first listed marks list values
+pub output_from : {job : Option Domain} {first : Verdict} {listed : ℕ} {marks list values marks' list' values' : List ℕ} → Reported job first listed marks list values
     → marks' ≡ marks → list' ≡ list → values' ≡ values → output_with job ≡ report first marks' (take listed list') (take listed values')
 output_from r e f g = rw (e, f, g) r.output
 
@@ -204,10 +203,10 @@ pub by_answer : {P : Type 0} (a : DomainAnswer) → ((n : ℕ) → a ≡ Refused
 by_answer (Refused n) refused searched = refused n refl
 by_answer (Searched v n) refused searched = searched v n refl
 
-pub output_short : (r : Reading) → length (output_with r) ≤ longest
+pub output_short : (r : Option Domain) → length (output_with r) ≤ longest
 unfolding output_with
-output_short Malformed = omega (arith, refused_short (reading_refusal Malformed) (omega arith))
-output_short (Read d) =
+output_short None = omega (arith, refused_short (reading_refusal None) (omega arith))
+output_short (Some d) =
     by_answer (answer_of d) (λ n e. omega (arith, ap length (printed_refused d e), refused_short n (⊎_elim (λ h. omega arith) (λ h. omega (arith, h)) (number_is d e))))
     (λ v n e. omega (arith, ap length (printed_report d e), report_fits d e))
 

@@ -5,6 +5,7 @@ use mathlib.Core.Logic.{inl, ⊎_elim}
 use Prim.Native.Nat.{ℕ, ◌+◌, ◌<◌}
 use native.Mathlib.Omega.{arith}
 use lib.ListN.{length, get_or}
+use Rattle.std.proofs.Common.{Option, Some, None}
 use Rattle.numbers.proofs.Buffers.{front_correct}
 use Rattle.domain.specs.declared.Domain.{Domain}
 use Rattle.domain.proofs.Promises as domain
@@ -13,8 +14,6 @@ use Rattle.text.proofs.Laws.{one_digit}
 use Rattle.job.specs.Reading.{six_lines, rendering, reading}
 use Rattle.job.specs.Output.{answer_of, verdict_name, argument_lines, refused, report, printed, output_with, output_of}
 use Rattle.job.specs.Promise.{TextCorrect, OutputCorrect, Promised}
-use Rattle.job.specs.declared.Reading.{Reading}
-use Rattle.job.specs.declared.Reading.TheVariants.{Read, Malformed}
 use Rattle.job.proofs.Outputs.{search_refuses, number_is, marks_correct, hard_listed, values_listed, printed_refused, printed_report, by_answer, output_short}
 use Rattle.job.proofs.Longest.{longest_answered, longest_printed}
 use Rattle.job.proofs.Renderings.{reading_correct}
@@ -37,7 +36,7 @@ text_correct =
 
 -- ---- refusal 8 is that of malformed texts alone
 
-eight_printed : output_with Malformed ≡ bytes "refused=8\n"
+eight_printed : output_with None ≡ bytes "refused=8\n"
 unfolding decimal_within decimal refused output_with
 eight_printed = refl
 
@@ -60,10 +59,10 @@ no_job_eight d e =
     (number_is d r))
     (λ v n r. unfold report in let b = ap (λ (l : List ℕ). get_or l 0 0) (sym (printed_report d r) ∙ e) in omega (arith, b))
 
-malformed_of : (r : Reading) → output_with r ≡ bytes "refused=8\n" → r ≡ Malformed
+malformed_of : (r : Option Domain) → output_with r ≡ bytes "refused=8\n" → r ≡ None
 unfolding output_with
-malformed_of Malformed e = refl
-malformed_of (Read d) e = absurd (no_job_eight d e)
+malformed_of None e = refl
+malformed_of (Some d) e = absurd (no_job_eight d e)
 
 -- ---- the output of a job's text
 
@@ -71,7 +70,7 @@ five_printed : refused 5 ≡ bytes "refused=5\n"
 unfolding decimal_within decimal refused
 five_printed = refl
 
-output_is : (t : List ℕ) {d : Domain} → reading t ≡ Read d → output_of t ≡ printed d
+output_is : (t : List ℕ) {d : Domain} → reading t ≡ Some d → output_of t ≡ printed d
 unfolding output_of output_with
 output_is t e = ap output_with e
 

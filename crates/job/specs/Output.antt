@@ -1,5 +1,5 @@
 -- What the job program prints. Assumes nothing: these are definitions.
-use Rattle.std.specs.Prelude.{List, [], ◌∷◌, ◌++◌, map, ℕ, ◌<◌, length, get_or}
+use Rattle.std.specs.Prelude.{Option, Some, None, List, [], ◌∷◌, ◌++◌, map, ℕ, ◌<◌, length, get_or}
 use Rattle.segment.specs.declared.Verdict.{Verdict}
 use Rattle.segment.specs.declared.Verdict.TheVariants.{Clear, Possible}
 use Rattle.domain.specs.Domain.{listed_arguments, hard_values}
@@ -9,8 +9,6 @@ use Rattle.domain.specs.declared.DomainAnswer.{DomainAnswer}
 use Rattle.domain.specs.declared.DomainAnswer.TheVariants.{Refused, Searched}
 use Rattle.text.specs.Text.{bytes, digit, decimal, line}
 use Rattle.job.specs.Reading.{reading, reading_refusal}
-use Rattle.job.specs.declared.Reading.{Reading}
-use Rattle.job.specs.declared.Reading.TheVariants.{Read, Malformed}
 
 -- the places that a job has for hard arguments, and as many for their values
 abbrev pub places : ℕ
@@ -67,29 +65,29 @@ unfoldable pub printed : Domain → List ℕ
 printed d = printed_for (answer_of d) d
 
 -- the answer to a text, with so many places: that of the domain search, or refusal 8
-unfoldable pub job_answer : Reading → (list_places value_places : ℕ) → DomainAnswer
-job_answer (Read d) m n = domain_answer d m n
-job_answer Malformed m n = Refused (reading_refusal Malformed)
+unfoldable pub job_answer : Option Domain → (list_places value_places : ℕ) → DomainAnswer
+job_answer (Some d) m n = domain_answer d m n
+job_answer None m n = Refused (reading_refusal None)
 
 -- the marks then, from what they were
-unfoldable pub job_marks : Reading → (list_places value_places : ℕ) → (old : List ℕ) → List ℕ
-job_marks (Read d) m n old = marks_after d m n old
-job_marks Malformed m n old = old
+unfoldable pub job_marks : Option Domain → (list_places value_places : ℕ) → (old : List ℕ) → List ℕ
+job_marks (Some d) m n old = marks_after d m n old
+job_marks None m n old = old
 
 -- the list then, from what it was
-unfoldable pub job_list : Reading → (value_places : ℕ) → (old : List ℕ) → List ℕ
-job_list (Read d) n old = list_after d n old
-job_list Malformed n old = old
+unfoldable pub job_list : Option Domain → (value_places : ℕ) → (old : List ℕ) → List ℕ
+job_list (Some d) n old = list_after d n old
+job_list None n old = old
 
 -- and the values
-unfoldable pub job_values : Reading → (list_places : ℕ) → (old : List ℕ) → List ℕ
-job_values (Read d) m old = values_after d m old
-job_values Malformed m old = old
+unfoldable pub job_values : Option Domain → (list_places : ℕ) → (old : List ℕ) → List ℕ
+job_values (Some d) m old = values_after d m old
+job_values None m old = old
 
 -- what is printed of a job, or of a text that is none
-unfoldable pub output_with : Reading → List ℕ
-output_with (Read d) = printed d
-output_with Malformed = refused (reading_refusal Malformed)
+unfoldable pub output_with : Option Domain → List ℕ
+output_with (Some d) = printed d
+output_with None = refused (reading_refusal None)
 
 -- what is printed of a text
 unfoldable pub output_of : (text : List ℕ) → List ℕ

@@ -1,6 +1,6 @@
 -- What is promised of a job's text and of what is printed. `Promised`, at the end, is all of it; proofs/Promises.antt proves it.
 -- Assumes nothing: these are statements.
-use Rattle.std.specs.Prelude.{◌≡◌, List, [], ◌∷◌, ◌++◌, ◌↔◌, ◌⊎◌, ℕ, ◌+◌, ◌^◌, ◌≤◌, ◌<◌, ℤ, nat_abs, length, take}
+use Rattle.std.specs.Prelude.{◌≡◌, Some, None, List, [], ◌∷◌, ◌++◌, ◌↔◌, ◌⊎◌, ℕ, ◌+◌, ◌^◌, ◌≤◌, ◌<◌, ℤ, nat_abs, length, take}
 use Rattle.numbers.specs.Lists.{overwrite_front}
 use Rattle.numbers.specs.Promise.{Enumerates, BufferCorrect}
 use Rattle.segment.specs.declared.Verdict.{Verdict}
@@ -13,22 +13,21 @@ use Rattle.domain.specs.declared.DomainAnswer.TheVariants.{Refused, Searched}
 use Rattle.text.specs.Text.{bytes, decimal, signed_decimal}
 use Rattle.job.specs.Reading.{six_lines, rendering, InRange, reading, reading_refusal}
 use Rattle.job.specs.Output.{longest, answer_of, verdict_name, mark_digits, argument_lines, refused, report, output_of}
-use Rattle.job.specs.declared.Reading.TheVariants.{Read, Malformed}
 
 -- ---- reading
 
 pub record ReadingCorrect : Type 0 where
   -- a text is read as a job exactly where the job's numbers are in range and it is their seven lines, or, where the origin is 0, the last six of these
-  pub read : (t : List ℕ) (d : Domain) → (reading t ≡ Read d) ↔ (InRange d × ((t ≡ rendering d) ⊎ ((d.origin ≡ 0) × (t ≡ six_lines d))))
+  pub read : (t : List ℕ) (d : Domain) → (reading t ≡ Some d) ↔ (InRange d × ((t ≡ rendering d) ⊎ ((d.origin ≡ 0) × (t ≡ six_lines d))))
   -- and is malformed exactly where it is neither for any such job
   pub malformed : (t : List ℕ)
-      → (reading t ≡ Malformed) ↔ ((d : Domain) → InRange d → (t ≡ rendering d) ⊎ ((d.origin ≡ 0) × (t ≡ six_lines d)) → ⊥)
+      → (reading t ≡ None) ↔ ((d : Domain) → InRange d → (t ≡ rendering d) ⊎ ((d.origin ≡ 0) × (t ≡ six_lines d)) → ⊥)
   -- so with origin 0 a job has two texts, and both are read as that job
-  pub both : (d : Domain) → InRange d → d.origin ≡ 0 → (reading (rendering d) ≡ Read d) × (reading (six_lines d) ≡ Read d)
+  pub both : (d : Domain) → InRange d → d.origin ≡ 0 → (reading (rendering d) ≡ Some d) × (reading (six_lines d) ≡ Some d)
   -- 01's numbers for the two cases: no refusal, and 8
-  pub numbers : (d : Domain) → (reading_refusal (Read d) ≡ 0) × (reading_refusal Malformed ≡ 8)
+  pub numbers : (d : Domain) → (reading_refusal (Some d) ≡ 0) × (reading_refusal None ≡ 8)
   -- no job's text is longer than 193 bytes, and that of six lines not longer than 165; there are jobs with as many. So the first 194 bytes of a text decide
-  pub short : (t : List ℕ) (d : Domain) → reading t ≡ Read d → length t ≤ 193
+  pub short : (t : List ℕ) (d : Domain) → reading t ≡ Some d → length t ≤ 193
   pub six_short : (d : Domain) → InRange d → length (six_lines d) ≤ 165
   pub longest_text : (d : Domain) × InRange d × (length (rendering d) ≡ 193) × (length (six_lines d) ≡ 165)
   pub front_decides : (t : List ℕ) (n : ℕ) → 194 ≤ n → reading (take n t) ≡ reading t
@@ -61,18 +60,18 @@ pub record TextCorrect : Type 0 where
 
 pub record OutputCorrect : Type 0 where
   -- a malformed text prints the single line of refusal 8, and no job does
-  pub malformed : (t : List ℕ) → (reading t ≡ Malformed) ↔ (output_of t ≡ bytes "refused=8\n")
+  pub malformed : (t : List ℕ) → (reading t ≡ None) ↔ (output_of t ≡ bytes "refused=8\n")
   -- a job is asked of the domain search with 4,096 places for arguments and as many for values
   pub asked : (d : Domain) → answer_of d ≡ domain_answer d 4096 4096
   -- a job that is refused, which is as the domain search refuses it, prints its number alone
   pub refuses : (d : Domain) (n : ℕ) → (answer_of d ≡ Refused n) ↔ RefusedFor d 4096 4096 n
-  pub job_refused : (t : List ℕ) (d : Domain) (n : ℕ) → reading t ≡ Read d → answer_of d ≡ Refused n → output_of t ≡ refused n
+  pub job_refused : (t : List ℕ) (d : Domain) (n : ℕ) → reading t ≡ Some d → answer_of d ≡ Refused n → output_of t ≡ refused n
   -- a job with a window of 0 that nothing asked before the window refuses prints the single line of refusal 5
-  pub without_window : (t : List ℕ) (d : Domain) → reading t ≡ Read d → d.window ≡ 0 → 2 ≤ d.modulus → d.modulus ≤ 2 ^ 62 → d.slope < d.modulus → d.value < d.modulus
+  pub without_window : (t : List ℕ) (d : Domain) → reading t ≡ Some d → d.window ≡ 0 → 2 ≤ d.modulus → d.modulus ≤ 2 ^ 62 → d.slope < d.modulus → d.value < d.modulus
       → 1 ≤ d.count → d.count ≤ 1048576 → output_of t ≡ bytes "refused=5\n"
   -- a job that is not refused prints phase 1's verdict, the marks, how many arguments are listed, and a line for each hard argument x with origin + x and V(x): what is
   -- hard is said in the job's own numbers, the arguments are all there, each once and ascending, and each has its own value beside it
-  pub job_reported : (t : List ℕ) (d : Domain) (first : Verdict) (listed : ℕ) → reading t ≡ Read d → answer_of d ≡ Searched first listed
+  pub job_reported : (t : List ℕ) (d : Domain) (first : Verdict) (listed : ℕ) → reading t ≡ Some d → answer_of d ≡ Searched first listed
       → output_of t ≡ report first (marks_of d) (listed_arguments d) (hard_values d)
   pub marked : (d : Domain) (first : Verdict) (listed : ℕ) → answer_of d ≡ Searched first listed → MarksCorrect d first (marks_of d)
   pub hard : (d : Domain) (first : Verdict) (listed : ℕ) → answer_of d ≡ Searched first listed

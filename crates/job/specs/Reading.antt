@@ -1,14 +1,8 @@
 -- The text of a job, and how it is read. Assumes nothing: these are definitions.
-use Rattle.std.specs.Prelude.{cond, List, [], ℕ, ◌^◌, ◌<◌, ltb, ℤ, nat_abs, length}
+use Rattle.std.specs.Prelude.{cond, Option, Some, None, List, [], ℕ, ◌^◌, ◌<◌, ltb, nat_abs, length}
 use Rattle.domain.specs.declared.Domain.{Domain}
 use Rattle.text.specs.Text.{bytes, decimal, signed_decimal, line}
 use Rattle.text.specs.Reading.{field_at, signed_field_at}
-use Rattle.text.specs.declared.Found.{Found}
-use Rattle.text.specs.declared.Found.TheVariants as found
-use Rattle.text.specs.declared.FoundSigned.{FoundSigned}
-use Rattle.text.specs.declared.FoundSigned.TheVariants as found_signed
-use Rattle.job.specs.declared.Reading.{Reading}
-use Rattle.job.specs.declared.Reading.TheVariants.{Read, Malformed}
 
 -- the six lines that every job has, in fixed order
 unfoldable pub six_lines : Domain → List ℕ
@@ -37,39 +31,35 @@ pub record InRange (d : Domain) : Type 0 where
 -- ---- reading
 
 -- what is read where a field was found, from its number and the place after it
-abbrev pub after_field : Found → (ℕ → ℕ → Reading) → Reading
-after_field (found.Number n end) next = next n end
-after_field found.Malformed next = Malformed
-
-abbrev pub after_signed : FoundSigned → (ℤ → ℕ → Reading) → Reading
-after_signed (found_signed.Number s end) next = next s end
-after_signed found_signed.Malformed next = Malformed
+abbrev pub after_field : {A : Type 0} → Option (A × ℕ) → (A → ℕ → Option Domain) → Option Domain
+after_field (Some (n, end)) next = next n end
+after_field None next = None
 
 -- the last three fields from a place on, and nothing after them
-unfoldable pub rest_from : (at origin modulus value slope : ℕ) → (text : List ℕ) → Reading
+unfoldable pub rest_from : (at origin modulus value slope : ℕ) → (text : List ℕ) → Option Domain
 rest_from at origin modulus value slope t =
-    after_signed (signed_field_at (bytes "curve=") at t) (λ curve a.
+    after_field (signed_field_at (bytes "curve=") at t) (λ curve a.
     after_field (field_at (bytes "count=") a t) (λ count b.
     after_field (field_at (bytes "window=") b t) (λ window end.
-    cond (ltb end (length t)) Malformed
-    (Read (record { origin = origin; modulus = modulus; value = value; slope = slope; curve = curve; count = count; window = window })))))
+    cond (ltb end (length t)) None
+    (Some (record { origin = origin; modulus = modulus; value = value; slope = slope; curve = curve; count = count; window = window })))))
 
 -- six fields from a place on, in fixed order
-unfoldable pub lines_from : (at origin : ℕ) → (text : List ℕ) → Reading
+unfoldable pub lines_from : (at origin : ℕ) → (text : List ℕ) → Option Domain
 lines_from at origin t =
     after_field (field_at (bytes "modulus=") at t) (λ modulus a.
     after_field (field_at (bytes "value=") a t) (λ value b.
     after_field (field_at (bytes "slope=") b t) (λ slope c. rest_from c origin modulus value slope t)))
 
 -- the other fields, after that of the origin where it was found, and else from the first place on with origin 0
-abbrev pub after_origin : Found → (text : List ℕ) → Reading
-after_origin (found.Number origin end) t = lines_from end origin t
-after_origin found.Malformed t = lines_from 0 0 t
+abbrev pub after_origin : Option (ℕ × ℕ) → (text : List ℕ) → Option Domain
+after_origin (Some (origin, end)) t = lines_from end origin t
+after_origin None t = lines_from 0 0 t
 
-unfoldable pub reading : (text : List ℕ) → Reading
+unfoldable pub reading : (text : List ℕ) → Option Domain
 reading t = after_origin (field_at (bytes "origin=") 0 t) t
 
 -- the number of a reading's refusal; 0 where there is none
-abbrev pub reading_refusal : Reading → ℕ
-reading_refusal (Read d) = 0
-reading_refusal Malformed = 8
+abbrev pub reading_refusal : Option Domain → ℕ
+reading_refusal (Some d) = 0
+reading_refusal None = 8

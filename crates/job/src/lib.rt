@@ -1,99 +1,78 @@
 // The text of a job: read strictly, run, and its answer printed; bytes in, bytes out.
 //
-// A job names a domain on seven lines in fixed order, origin=, modulus=, value=, slope=, curve=, count= and window=, each with a decimal number and a
-// line feed; the first line may be left out, and the origin is 0 then. All else is refused by 8, before all other refusals.
+// A job names a domain on seven lines in fixed order, origin=, modulus=, value=, slope=, curve=,
+// count= and window=, each with a decimal number and a line feed; the first line may be left out,
+// and the origin is 0 then. All else is refused by 8, before all other refusals.
 #![tactic(auto)]
 
 ghost use Rattle.std.specs.Prelude.{◌≡◌, length};
-ghost use Rattle.std.proofs.lemmas.List.Edits.{sets};
-ghost use Rattle.numbers.specs.Lists.{overwrite_front, place_after};
-ghost use Rattle.job.specs.Reading.{rest_from, lines_from, reading};
-ghost use Rattle.job.specs.Output.{job_answer, job_marks, job_list, job_values, output_with, output_of, longest};
+ghost use Rattle.numbers.specs.Lists.{overwrite_front};
+ghost use Rattle.text.specs.Writing.{Wrote};
+ghost use Rattle.job.specs.Reading.{lines_from, reading};
+ghost use Rattle.job.specs.Output.{job_answer, job_marks, job_list, job_values};
+ghost use Rattle.job.specs.Output.{output_with, output_of, longest};
 
 mod report;
 
 use domain::Domain;
 use report::{put_refusal, put_report};
+use text::Writer;
 
 // The longest answer: 4,096 arguments of sixteen digits with values of nineteen.
 pub const LONGEST: usize = 213034;
 
-// A text is that of a job, or it is malformed.
-#[derive(Drop)]
-pub enum Reading {
-    Read(Domain),
-    Malformed,
-}
-
-// Reads a job: no space, no sign but a minus before a curve that is not 0, no leading zero but in 0 itself, numbers below 2^64, a curve's
-// size below 2^63, nothing after the line feed of the window. Without the line of the origin the text begins with that of the modulus.
-pub fn read_job(text: &[u8]) -> Reading
+// Reads a job, where the text is one: no space, no sign but a minus before a curve that is not 0,
+// no leading zero but in 0 itself, numbers below 2^64, a curve's size below 2^63, nothing after the
+// line feed of the window. Without the line of the origin the text begins with that of the modulus.
+#[tactic(auto, unfolding(crate::specs::Reading::reading))]
+pub fn read_job(text: &[u8]) -> Option<Domain>
     ensures { result ≡ reading text.now }
 {
-    match text::field(text, 0, b"origin=") {
-        text::Found::Number(origin, after_origin) => read_lines(text, after_origin, origin),
-        text::Found::Malformed => read_lines(text, 0, 0),
-    }
+    let (origin, at) = text::field(text, 0, b"origin=").unwrap_or((0, 0));
+    read_lines(text, at, origin)
 }
 
 // The six lines that every job has, from a place on.
-fn read_lines(text: &[u8], at: usize, origin: u64) -> Reading
+#[tactic(auto, unfolding(crate::specs::Reading::lines_from, crate::specs::Reading::rest_from))]
+fn read_lines(text: &[u8], at: usize, origin: u64) -> Option<Domain>
     ensures { result ≡ lines_from at origin text.now }
 {
-    let text::Found::Number(modulus, after_modulus) = text::field(text, at, b"modulus=") else {
-        return Reading::Malformed;
-    };
-    let text::Found::Number(value, after_value) = text::field(text, after_modulus, b"value=") else {
-        return Reading::Malformed;
-    };
-    let text::Found::Number(slope, after_slope) = text::field(text, after_value, b"slope=") else {
-        return Reading::Malformed;
-    };
-    read_rest(text, after_slope, origin, modulus, value, slope)
-}
-
-// The last three lines, after those of the modulus, the value and the slope.
-fn read_rest(text: &[u8], at: usize, origin: u64, modulus: u64, value: u64, slope: u64) -> Reading
-    ensures { result ≡ rest_from at origin modulus value slope text.now }
-{
-    let text::FoundSigned::Number(curve, after_curve) = text::signed_field(text, at, b"curve=")
-    else {
-        return Reading::Malformed;
-    };
-    let text::Found::Number(count, after_count) = text::field(text, after_curve, b"count=") else {
-        return Reading::Malformed;
-    };
-    let text::Found::Number(window, end) = text::field(text, after_count, b"window=") else {
-        return Reading::Malformed;
-    };
+    let (modulus, at) = text::field(text, at, b"modulus=")?;
+    let (value, at) = text::field(text, at, b"value=")?;
+    let (slope, at) = text::field(text, at, b"slope=")?;
+    let (curve, at) = text::signed_field(text, at, b"curve=")?;
+    let (count, at) = text::field(text, at, b"count=")?;
+    let (window, end) = text::field(text, at, b"window=")?;
     if end < text.len() {
-        return Reading::Malformed;
+        return None;
     }
-    Reading::Read(Domain {
-        origin: origin,
-        modulus: modulus,
-        value: value,
-        slope: slope,
-        curve: curve,
-        count: count,
-        window: window,
+    Some(Domain {
+        origin,
+        modulus,
+        value,
+        slope,
+        curve,
+        count,
+        window,
     })
 }
 
-// Runs the job of a text and prints the answer from the first place of the buffer on; the places after it are left as they were. Tells how
-// many bytes it printed. The buffer is as large as the longest answer, of 4,096 arguments and their values.
+// Runs the job of a text and prints the answer from the first place of the buffer on; the places
+// after it are left as they were. Tells how many bytes it printed. The buffer is as large as the
+// longest answer, of 4,096 arguments and their values.
 pub fn run_job(text: &[u8], out: &mut [u8; LONGEST]) -> usize
     ensures count { result ≡ length (output_of text.now) }
     ensures written { out.new ≡ overwrite_front (output_of text.now) out.old }
     ensures room { length out.old ≡ longest }
 {
-    print_answer(read_job(text), out)
+    let mut writer = Writer::new(out);
+    print_answer(read_job(text), &mut writer);
+    writer.written()
 }
 
 // Prints the answer to a job, or the refusal of a text that is none.
-fn print_answer(job: Reading, out: &mut [u8]) -> usize
-    ensures place { result ≡ place_after 0 (output_with job) out.old }
-    ensures written { out.new ≡ sets out.old 0 (output_with job) }
+fn print_answer(job: Option<Domain>, out: &mut Writer)
+    ensures { Wrote out.old (output_with job) out.new }
 {
     let mut marks = [0u8; 8];
     let mut list = [0u64; 4096];
@@ -110,9 +89,10 @@ fn print_answer(job: Reading, out: &mut [u8]) -> usize
     }
 }
 
-// Searches the domain of a job. A text that is none is refused by 8, and leaves marks, list and values as they were.
+// Searches the domain of a job. A text that is none is refused by 8, and leaves marks, list and
+// values as they were.
 fn search(
-    job: Reading,
+    job: Option<Domain>,
     marks: &mut [u8; 8],
     list: &mut [u64],
     values: &mut [u64],
@@ -123,7 +103,7 @@ fn search(
     ensures values_after { values.new ≡ job_values job (length list.old) values.old }
 {
     match job {
-        Reading::Read(domain) => domain::search_domain(domain, marks, list, values),
-        Reading::Malformed => domain::DomainAnswer::Refused(8),
+        Some(domain) => domain::search_domain(domain, marks, list, values),
+        None => domain::DomainAnswer::Refused(8),
     }
 }

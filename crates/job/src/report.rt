@@ -1,19 +1,19 @@
-// What is printed of a job: the line of a refusal; or phase 1's verdict, the marks, and the hard arguments with their values. Each function writes from a place on,
-// as far as there are places, and tells the place after what it wrote. Each name that is printed stands here, and once.
-ghost use Rattle.std.specs.Prelude.{◌≡◌, [], length};
-ghost use Rattle.std.proofs.lemmas.List.Edits.{sets};
-ghost use Rattle.numbers.specs.Lists.{place_after};
+// What is printed of a job: the line of a refusal; or phase 1's verdict, the marks, and the hard
+// arguments with their values. Each name that is printed stands here, and once.
+ghost use Rattle.std.specs.Prelude.{[]};
 ghost use Rattle.text.specs.Text.{bytes, line};
-ghost use Rattle.job.specs.Output.{verdict_name, SmallMarks, mark_digits, argument_lines, refused, report};
+ghost use Rattle.text.specs.Writing.{Wrote};
+ghost use Rattle.job.specs.Output.{verdict_name, SmallMarks, mark_digits, argument_lines};
+ghost use Rattle.job.specs.Output.{refused, report};
 
-use text::{put, put_byte, put_line, put_number};
+use text::Writer;
 
 // A refusal is its number alone.
-pub(crate) fn put_refusal(number: u64, out: &mut [u8]) -> usize
-    ensures place { result ≡ place_after 0 (refused number) out.old }
-    ensures written { out.new ≡ sets out.old 0 (refused number) }
+#[tactic(auto, unfolding(crate::specs::Output::refused))]
+pub(crate) fn put_refusal(number: u64, out: &mut Writer)
+    ensures { Wrote out.old (refused number) out.new }
 {
-    put_line(b"refused=", number, out, 0)
+    out.put_line(b"refused=", number);
 }
 
 // What is printed of a job that is not refused.
@@ -22,79 +22,64 @@ pub(crate) fn put_report(
     marks: &[u8],
     arguments: &[u64],
     values: &[u64],
-    out: &mut [u8],
-) -> usize
-    requires small_marks { SmallMarks marks.now }
-    requires as_many { length values.now ≡ length arguments.now }
-    ensures place { result ≡ place_after 0 (report first marks.now arguments.now values.now) out.old }
-    ensures written { out.new ≡ sets out.old 0 (report first marks.now arguments.now values.now) }
+    out: &mut Writer,
+)
+    requires { SmallMarks marks.now }
+    ensures { Wrote out.old (report first marks.now arguments.now values.now) out.new }
 {
-    let after_first = put_first(first, out, 0);
-    let after_parts = put_parts(marks, out, after_first);
-    let after_listed = put_line(b"listed=", arguments.len() as u64, out, after_parts);
-    put_arguments(arguments, values, out, after_listed)
+    put_first(first, out);
+    put_parts(marks, out);
+    out.put_line(b"listed=", arguments.len() as u64);
+    put_arguments(arguments, values, out);
 }
 
 // The line of phase 1's verdict.
-fn put_first(first: segment::Verdict, out: &mut [u8], at: usize) -> usize
-    ensures place { result ≡ place_after at (line (bytes "first=") (verdict_name first) []) out.old }
-    ensures written { out.new ≡ sets out.old at (line (bytes "first=") (verdict_name first) []) }
+fn put_first(first: segment::Verdict, out: &mut Writer)
+    ensures { Wrote out.old (line (bytes "first=") (verdict_name first) []) out.new }
 {
-    let after_name = put(b"first=", out, at);
-    let after_verdict = put_verdict(first, out, after_name);
-    put_byte(10, out, after_verdict)
+    out.put(b"first=");
+    put_verdict(first, out);
+    out.put_byte(b'\n');
 }
 
 // What a verdict is called.
-fn put_verdict(verdict: segment::Verdict, out: &mut [u8], at: usize) -> usize
-    ensures place { result ≡ place_after at (verdict_name verdict) out.old }
-    ensures written { out.new ≡ sets out.old at (verdict_name verdict) }
+#[tactic(auto, unfolding(crate::specs::Output::verdict_name))]
+fn put_verdict(verdict: segment::Verdict, out: &mut Writer)
+    ensures { Wrote out.old (verdict_name verdict) out.new }
 {
     match verdict {
-        segment::Verdict::Clear => put(b"cleared", out, at),
-        segment::Verdict::Possible => put(b"possible", out, at),
+        segment::Verdict::Clear => out.put(b"cleared"),
+        segment::Verdict::Possible => out.put(b"possible"),
     }
 }
 
 // The line of the marks.
-fn put_parts(marks: &[u8], out: &mut [u8], at: usize) -> usize
+fn put_parts(marks: &[u8], out: &mut Writer)
     requires { SmallMarks marks.now }
-    ensures place { result ≡ place_after at (line (bytes "parts=") (mark_digits marks.now) []) out.old }
-    ensures written { out.new ≡ sets out.old at (line (bytes "parts=") (mark_digits marks.now) []) }
+    ensures { Wrote out.old (line (bytes "parts=") (mark_digits marks.now) []) out.new }
 {
-    let after_name = put(b"parts=", out, at);
-    let after_marks = put_marks(marks, out, after_name);
-    put_byte(10, out, after_marks)
+    out.put(b"parts=");
+    put_marks(marks, out);
+    out.put_byte(b'\n');
 }
 
 // The marks, a digit each.
-fn put_marks(marks: &[u8], out: &mut [u8], at: usize) -> usize
+fn put_marks(marks: &[u8], out: &mut Writer)
     requires { SmallMarks marks.now }
-    ensures place { result ≡ place_after at (mark_digits marks.now) out.old }
-    ensures written { out.new ≡ sets out.old at (mark_digits marks.now) }
+    ensures { Wrote out.old (mark_digits marks.now) out.new }
 {
-    let mut i = 0;
-    let mut end = at;
-    while i < marks.len() {
-        end = put_byte(48 + marks[i], out, end);
-        i = i + 1;
+    for mark in marks {
+        out.put_byte(b'0' + *mark);
     }
-    end
 }
 
 // A line for each argument and its value.
-fn put_arguments(arguments: &[u64], values: &[u64], out: &mut [u8], at: usize) -> usize
-    requires { length values.now ≡ length arguments.now }
-    ensures place { result ≡ place_after at (argument_lines arguments.now values.now) out.old }
-    ensures written { out.new ≡ sets out.old at (argument_lines arguments.now values.now) }
+fn put_arguments(arguments: &[u64], values: &[u64], out: &mut Writer)
+    ensures { Wrote out.old (argument_lines arguments.now values.now) out.new }
 {
-    let mut i = 0;
-    let mut end = at;
-    while i < arguments.len() {
-        let after_name = put(b"argument=", out, end);
-        let after_argument = put_number(arguments[i], out, after_name);
-        end = put_line(b" value=", values[i], out, after_argument);
-        i = i + 1;
+    for (argument, value) in arguments.iter().zip(values) {
+        out.put(b"argument=");
+        out.put_number(*argument);
+        out.put_line(b" value=", *value);
     }
-    end
 }

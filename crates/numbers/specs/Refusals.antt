@@ -34,6 +34,10 @@ unfoldable pub outcome : {A : Type 0} → (number : ℕ) → A → Result A Refu
 outcome zero a = Ok a
 outcome (suc n) a = Err (named (suc n))
 
+-- the answer of a call that tests alone
+abbrev pub tested : (number : ℕ) → Result (Unit {0}) Refusal
+tested n = outcome n tt
+
 -- the number of an answer's refusal; 0 where there is none
 abbrev pub number_in : {A : Type 0} → Result A Refusal → ℕ
 number_in (Ok a) = 0

@@ -36,7 +36,8 @@ pub fn remainder(number: i64, modulus: u64) -> u64
     reduce(number as u64, modulus)
 }
 
-// A signed number without its sign.
+// A signed number without its sign. (std's unsigned_abs would do; the must-fail edits magnitude_one_high
+// and magnitude_one_low are of this function.)
 pub fn magnitude(number: i64) -> u64
     ensures { result ≡ nat_abs number }
 {
@@ -46,7 +47,8 @@ pub fn magnitude(number: i64) -> u64
     number as u64
 }
 
-// The smaller of two numbers.
+// The smaller of two numbers. (std's min would do; the must-fail edits first_for_smaller and
+// second_for_smaller are of this function.)
 pub fn min(a: u64, b: u64) -> u64
     ensures { result ≡ min a b }
 {
@@ -56,7 +58,8 @@ pub fn min(a: u64, b: u64) -> u64
     b
 }
 
-// What the first of two numbers exceeds the second by: 0 where it does not.
+// What the first of two numbers exceeds the second by: 0 where it does not. (std's saturating_sub would
+// do; the must-fail edits difference_below_zero and nothing_taken_off are of this function.)
 pub fn saturating_sub(a: u64, b: u64) -> u64
     ensures { result ≡ a - b }
 {

@@ -18,11 +18,11 @@ pub cutting : {j : ℕ} {s : State} {c : Cuts} → c ≡ cuts_of j s → Cuttabl
 cutting e a = rw e (record { able = a; rest_is = refl })
 
 -- those that end a fine search are no more than all
-pub last_able : (N : ℕ) {s : State} → Steppable s → Cuttable (last_cuts N s) s
-last_able N {s} p = fewer (min-le_right (cuts_to N s) (all_cuts s)) p.all
+pub last_able : {N : ℕ} {s : State} → Steppable N s → Cuttable (last_cuts N s) s
+last_able {N} {s} p = fewer (min-le_right (cuts_to N s) (all_cuts s)) p.all
 
-pub last_cutting : (N : ℕ) {s : State} {c : Cuts} → Steppable s → c ≡ cuts_of (last_cuts N s) s → Cutting c s
-last_cutting N p e = cutting e (last_able N p)
+pub last_cutting : {N : ℕ} {s : State} {c : Cuts} → Steppable N s → c ≡ cuts_of (last_cuts N s) s → Cutting c s
+last_cutting p e = cutting e (last_able p)
 
 -- ---- where the point below the start goes
 
@@ -58,10 +58,13 @@ module _ (j : ℕ) (s : State) where
   unfolding highest_cut
   by_division r = rw (r, mod-eq-sub-div-mul)
 
-  -- no more cuts are taken back than are made
-  pub back_few : Cuttable j s → (s.distance - (s.long - j * s.short)) / s.short * s.longs ≤ j * s.longs
-  back_few c = mul-le-mul_right s.longs (div-le_of_le-mul s.short {n = j} (omega arith))
+-- no more cuts are taken back than are made
+pub back_few : {c : Cuts} {s : State} {over : ℕ} → Cutting c s → over ≡ s.distance - c.rest
+    → over / s.short * s.longs ≤ c.number * s.longs
+back_few {c} {s} {over} p e =
+    mul-le-mul_right s.longs (div-le_of_le-mul s.short {n = c.number} (omega (arith, p.able, p.rest_is)))
 
 -- all cuts are enough for every move from the left
-pub moves_few : {s : State} → Steppable s → s.distance / s.short ≤ all_cuts s
-moves_few {s} p = (le-div_iff_mul-le p.all.short_positive).1 (omega (arith, div-mul-le_self s.distance s.short))
+pub moves_few : {j : ℕ} {s : State} → j ≡ all_cuts s → Cuttable j s → s.distance / s.short ≤ j
+moves_few {s = s} e p =
+    rw e ((le-div_iff_mul-le p.short_positive).1 (omega (arith, div-mul-le_self s.distance s.short)))

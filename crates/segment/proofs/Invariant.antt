@@ -98,7 +98,6 @@ module _ (k : Search) (s : Segment) (a : Accepted s) where
   start = first_state s.unit s.step s.start s.count
 
   begins_ended : reached_in k s ≡ configuration 1 0 0 → Ended k s start
-  unfolding first_state
   begins_ended e =
       record {
         least = record { below = omega arith; unique = λ y l n. absurd (n (omega arith)) };
@@ -108,7 +107,6 @@ module _ (k : Search) (s : Segment) (a : Accepted s) where
       }
 
   begins_running : 0 < s.step → 1 < s.count → Running k s false start
-  unfolding first_state
   begins_running h l =
       record {
         accepted = a;
@@ -122,7 +120,6 @@ module _ (k : Search) (s : Segment) (a : Accepted s) where
       }
 
   pub begins : {t : State} → t ≡ start → SearchInvariant k s false t
-  unfolding first_state
   begins e =
       rw e
       (by_cases (ℕ_discrete s.step 0)

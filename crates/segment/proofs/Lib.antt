@@ -3,6 +3,7 @@ mod Advancing
 mod Rows
 mod Invariant
 mod Steps
+mod Walks
 mod Stepping
 mod Sketches
 mod Answers

@@ -3,7 +3,6 @@ use mathlib.Core.Path.{◌≡◌, refl, sym}
 use mathlib.Core.Logic.{◌↔◌, ◌⊎◌, inl, inr, ⊎_elim}
 use Prim.Native.Nat.{ℕ, zero, suc, ◌≤◌}
 use native.Mathlib.Omega.{arith}
-use Rattle.numbers.proofs.Checklists.{gives}
 use Rattle.expansion.specs.Reached.{Search}
 use Rattle.expansion.specs.Reached.Search.{regular, fine}
 use Rattle.expansion.specs.Promise.{SearchesCorrect}
@@ -12,14 +11,14 @@ use Rattle.geometry.specs.Segment.{Segment, residue}
 use Rattle.geometry.proofs.Promises as geometry
 use Rattle.segment.specs.Accepted.{asked, checks, refusal, Accepted}
 use Rattle.segment.specs.Search.{reached_in, argument, distance, verdict}
-use Rattle.segment.specs.Answer.{regular_shown, fine_shown, regular_answer_with, fine_answer_with, regular_answer, fine_answer, regular_verdict_with, regular_verdict}
-use Rattle.segment.specs.State.{next}
+use Rattle.segment.specs.Answer.{regular_shown, fine_shown, regular_answer, fine_answer, regular_verdict_with, regular_verdict}
 use Rattle.segment.specs.Promise.{RefusedFor, RegularAnswerCorrect, FineAnswerCorrect, RegularClears, FineClears, Cleared, SmallerCleared, FineReachesNoMore, VerdictsCorrect, WithoutWindow, Promised}
 use Rattle.segment.specs.declared.Verdict.{Verdict}
 use Rattle.segment.specs.declared.Verdict.TheVariants.{Clear, Possible}
-use Rattle.segment.specs.declared.RegularAnswer.TheVariants as regular_variants
-use Rattle.segment.specs.declared.FineAnswer.TheVariants as fine_variants
-use Rattle.segment.proofs.Answers.{accepted, refused_for, regular_refused, fine_refused}
+use Rattle.numbers.specs.Refusals.{outcome}
+use Rattle.numbers.specs.declared.refusals.Refusal.TheVariants.{Window}
+use Rattle.segment.proofs.Answers.{accepted, refused_for, all_named, regular_refuses, fine_refuses}
+use Rattle.numbers.proofs.Outcomes.{outcome_by_cases}
 use Rattle.segment.proofs.Stepping.{steps_correct}
 use Rattle.segment.proofs.Showing.{apart, argument_below, distance_least, cleared_none, verdict_iff, shown_correct}
 
@@ -38,52 +37,34 @@ decide s = by (refusal s) refl
 -- ---- the answers
 
 regular_answers : (M a b N w : ℕ) → RegularAnswerCorrect (asked M a b N w) (regular_answer M a b N w)
-unfolding regular_answer regular_answer_with regular_shown RegularAnswerCorrect
+unfolding regular_answer regular_shown refusal RegularAnswerCorrect
 regular_answers M a b N w =
-    ⊎_elim
-    (λ c. rw c.0 (
-      c.1,
-      rw ((searches c.1).regular_ones, (searches c.1).regular_label N) at (shown_correct regular c.1),
-      (searches c.1).few_quotients N c.1.count_high,
+    outcome_by_cases (checks (asked M a b N w)) (regular_shown (asked M a b N w)) (RegularAnswerCorrect (asked M a b N w)) (all_named (asked M a b N w))
+    (λ h. let c : Accepted (asked M a b N w) = omega arith in (
+      c,
+      rw ((searches c).regular_ones, (searches c).regular_label N) at (shown_correct regular c),
+      (searches c).few_quotients N c.count_high,
     ))
-    (λ r. rw r.1 r.2) (decide (asked M a b N w))
+    (λ r h. h)
 
 fine_answers : (M a b N w : ℕ) → FineAnswerCorrect (asked M a b N w) (fine_answer M a b N w)
-unfolding fine_answer fine_answer_with fine_shown FineAnswerCorrect
+unfolding fine_answer fine_shown refusal FineAnswerCorrect
 fine_answers M a b N w =
-    ⊎_elim (λ c. rw c.0 (c.1, rw (searches c.1).fine_ones at (shown_correct fine c.1))) (λ r. rw r.1 r.2) (decide (asked M a b N w))
-
--- a number refuses exactly where its condition is the first that does not hold
-module _ (M a b N w n : ℕ) where
-  back : RefusedFor (asked M a b N w) n → (refusal (asked M a b N w) ≡ n) × (n ≡ 0 → ⊥)
-  unfolding refusal
-  back = (gives (checks (asked M a b N w)) (omega arith) n).1
-
-  regular_refuses : (regular_answer M a b N w ≡ regular_variants.Refused n) ↔ RefusedFor (asked M a b N w) n
-  unfolding RegularAnswerCorrect
-  regular_refuses = (
-    λ e. rw e at (regular_answers M a b N w),
-    λ f. let r = back f in sym (regular_refused M a b N w n (sym r.0) r.1),
-  )
-
-  fine_refuses : (fine_answer M a b N w ≡ fine_variants.Refused n) ↔ RefusedFor (asked M a b N w) n
-  unfolding FineAnswerCorrect
-  fine_refuses = (
-    λ e. rw e at (fine_answers M a b N w),
-    λ f. let r = back f in sym (fine_refused M a b N w n (sym r.0) r.1),
-  )
+    outcome_by_cases (checks (asked M a b N w)) (fine_shown (asked M a b N w)) (FineAnswerCorrect (asked M a b N w)) (all_named (asked M a b N w))
+    (λ h. let c : Accepted (asked M a b N w) = omega arith in (c, rw (searches c).fine_ones at (shown_correct fine c)))
+    (λ r h. h)
 
 -- ---- one search beside another
 
 -- an accepted segment is cleared exactly where its verdict is clear
 cleared_iff : (k : Search) (M a b N w : ℕ) → Accepted (asked M a b N w) → (verdict k (asked M a b N w) ≡ Clear) ↔ Cleared k M a b N w
-unfolding Cleared regular_answer fine_answer regular_answer_with fine_answer_with regular_shown fine_shown RegularClears FineClears
+unfolding Cleared outcome regular_answer fine_answer regular_shown fine_shown RegularClears FineClears
 cleared_iff regular M a b N w c = rw ((accepted (asked M a b N w)).1 c) (λ e. e, λ e. e)
 cleared_iff fine M a b N w c = rw ((accepted (asked M a b N w)).1 c) (λ e. e, λ e. e)
 
 -- and one that is cleared is accepted
 cleared_accepted : (k : Search) (M a b N w : ℕ) → Cleared k M a b N w → Accepted (asked M a b N w)
-unfolding Cleared regular_answer fine_answer regular_answer_with fine_answer_with RegularClears FineClears
+unfolding Cleared outcome regular_answer fine_answer RegularClears FineClears
 cleared_accepted regular M a b N w h = ⊎_elim (λ c. c.1) (λ r. absurd (rw r.1 at h)) (decide (asked M a b N w))
 cleared_accepted fine M a b N w h = ⊎_elim (λ c. c.1) (λ r. absurd (rw r.1 at h)) (decide (asked M a b N w))
 
@@ -107,7 +88,7 @@ smaller k M a b N w N' w' some n low v h =
 
 -- the counts of two answers
 no_more : FineReachesNoMore
-unfolding regular_answer fine_answer regular_answer_with fine_answer_with regular_shown fine_shown
+unfolding outcome regular_answer fine_answer regular_shown fine_shown
 no_more M a b N w r f er ef =
     ⊎_elim
     (λ c. let x = rw c.0 at er in
@@ -145,7 +126,7 @@ without_window M a b N =
       not_cleared = λ k h. omega (arith, (cleared_accepted k M a b N 0 h).window_low);
       refused = λ l m a< b< n k.
           let r : RefusedFor (asked M a b N 0) 5 = inr ((l, m), inr (a<, inr (b<, inr ((n, k), inl (refl, λ w. omega (arith, w.0)))))) in
-          ((refused_for (asked M a b N 0) 4).1 r, (regular_refuses M a b N 0 5).1 r, (fine_refuses M a b N 0 5).1 r);
+          ((refused_for (asked M a b N 0) 4).1 r, (regular_refuses M a b N 0 Window).1 r, (fine_refuses M a b N 0 Window).1 r);
     }
 
 two_verdicts : (v : Verdict) → (v ≡ Clear) ⊎ (v ≡ Possible)
@@ -165,7 +146,7 @@ promised =
       regular_refused = regular_refuses;
       fine_refused = fine_refuses;
       steps = λ k s c. steps_correct k c;
-      step_of = λ odd N t. unfold next in (refl, refl);
+      step_of = λ odd N t. (refl, refl);
       smaller = smaller;
       no_more = no_more;
       verdicts = verdicts;

@@ -2,14 +2,14 @@
 use mathlib.Core.Path.{◌≡◌, sym, ◌∙◌, ap}
 use mathlib.Core.Bool.{Bool, true, false, ◌||◌, cond, or-true, or-false, false≢true}
 use mathlib.Core.Logic.{⊎_elim, by_cases}
-use Prim.Native.Nat.{ℕ, suc, ◌+◌, ◌-◌, ◌*◌, ◌%◌, ◌≤◌, ◌<◌}
+use Prim.Native.Nat.{ℕ, suc, ◌+◌, ◌-◌, ◌*◌, ◌%◌, ◌^◌, ◌≤◌, ◌<◌}
 use native.Mathlib.Nat.{mul-le-mul_right, div-eq_of_lt-le, div-add-mod', eq-zero-or-pos, mod-lt, mod-eq-sub-div-mul}
 use native.Mathlib.Decide.{dec_le, ℕ_discrete}
 use native.Mathlib.Omega.{arith}
 use borrow.Author.Tests.{le-leb, lt-leb, eq-eqb, ne_eqb}
 use lib.Dec.{eqb, leb}
 use Rattle.numbers.proofs.Remainders.{quotient_positive}
-use Rattle.segment.specs.State.{quotient, all_cuts, last_cuts, cuts_of, Cutting, Steppable, Unreached, advanced, advanced_left, advanced_right, row_of, cut_state, in_next_row, finished, ends, regular_next, fine_next}
+use Rattle.segment.specs.State.{points, quotient, all_cuts, last_cuts, cuts_of, Cutting, Steppable, advanced, row_of, cut_state, in_next_row, finished, ends, regular_next, fine_next}
 use Rattle.segment.specs.declared.state.State.{State}
 use Rattle.segment.specs.declared.state.Cuts.{Cuts}
 use Rattle.segment.specs.declared.state.Nearest.{Nearest}
@@ -58,17 +58,11 @@ leb_less N l n h =
     by_cases (dec_le (N - l) n) (λ k. le-leb (N - l) n k ∙ sym (le-leb N (n + l) (omega arith)))
     (λ k. lt-leb (N - l) n (omega arith) ∙ sym (lt-leb N (n + l) (omega arith)))
 
--- where the code moves the point in a row of these cuts: even rows take all cuts for granted
-abbrev pub made : (odd : Bool) → Cuts → State → Nearest
-made false c s = advanced_left (all_cuts s) s
-made true c s = advanced_right c.number s
-
 -- the regular step, from all cuts of a row and what is made of them
-regular_by : (odd : Bool) (N : ℕ) (s : State) {c : Cuts} {m : Nearest} {done : Bool} → c ≡ cuts_of (all_cuts s) s → m ≡ made odd c s → done ≡ ends N s
+regular_by : (odd : Bool) (N : ℕ) (s : State) {c : Cuts} {m : Nearest} {done : Bool} → c ≡ cuts_of (all_cuts s) s → m ≡ advanced odd c.number s → done ≡ ends N s
     → in_next_row done (row_of s c m) ≡ regular_next odd N s
 unfolding regular_next cut_state
-regular_by false N s e f g = rw (f, e, g)
-regular_by true N s e f g = rw (f, e, g)
+regular_by odd N s e f g = rw (f, e, g)
 
 -- the fine step that ends the search
 pub end_step : (odd : Bool) (N : ℕ) (s : State) {row c : Cuts} {m : Nearest} {done : Bool} → done ≡ ends N s → done ≡ true → row ≡ cuts_of (quotient s) s
@@ -77,7 +71,7 @@ unfolding fine_next cut_state
 end_step odd N s d t r e f = rw (f, e, r, sym d ∙ t)
 
 -- a row as it is divided
-module _ {s : State} (p : Steppable s) {c : Cuts} (e : c ≡ cuts_of (quotient s) s) where
+module _ {N : ℕ} {s : State} (p : Steppable N s) {c : Cuts} (e : c ≡ cuts_of (quotient s) s) where
   rest_of : c.rest ≡ s.long % s.short
   rest_of = rw e (sym (mod-eq-sub-div-mul s.long s.short))
 
@@ -92,7 +86,7 @@ module _ {s : State} (p : Steppable s) {c : Cuts} (e : c ≡ cuts_of (quotient s
     exact : s.long % s.short ≡ 0
     exact = sym rest_of ∙ h
 
-    last_number : c.number - 1 ≡ all_cuts s
+    pub last_number : c.number - 1 ≡ all_cuts s
     last_number = omega (arith, number_of, cuts_exact s p.all.short_positive p.falls exact)
 
     last_all : record { number = c.number - 1; rest = s.short } ≡ cuts_of (all_cuts s) s
@@ -101,19 +95,19 @@ module _ {s : State} (p : Steppable s) {c : Cuts} (e : c ≡ cuts_of (quotient s
     pub last_row_cutting : Cutting (record { number = c.number - 1; rest = s.short }) s
     last_row_cutting = cutting last_all p.all
 
-    pub last_ends : (N : ℕ) → true ≡ ends N s
-    last_ends N = sym (ends_exact s p.all.short_positive p.falls exact N)
+    pub last_ends : true ≡ ends N s
+    last_ends = sym (ends_exact s p.all.short_positive p.falls exact N)
 
-    pub last_step : (odd : Bool) (N : ℕ) {m : Nearest} → m ≡ made odd (record { number = c.number - 1; rest = s.short }) s
+    pub last_step : (odd : Bool) {m : Nearest} → m ≡ advanced odd (c.number - 1) s
         → in_next_row true (row_of s (record { number = c.number - 1; rest = s.short }) m) ≡ regular_next odd N s
-    last_step odd N f = regular_by odd N s last_all f (last_ends N)
+    last_step odd f = regular_by odd N s last_all f last_ends
 
   -- any other
   module _ (n : c.rest ≡ 0 → ⊥) where
     some : 0 < s.long % s.short
     some = omega (arith, rest_of)
 
-    row_number : c.number ≡ all_cuts s
+    pub row_number : c.number ≡ all_cuts s
     row_number = number_of ∙ sym (cuts_inexact s p.all.short_positive some)
 
     row_all : c ≡ cuts_of (all_cuts s) s
@@ -123,26 +117,29 @@ module _ {s : State} (p : Steppable s) {c : Cuts} (e : c ≡ cuts_of (quotient s
     pub row_cutting : Cutting c s
     row_cutting = cutting row_all p.all
 
-    pub row_ends : (N : ℕ) → Unreached N s → leb (N - s.longs) (s.shorts + c.number * s.longs) ≡ ends N s
-    row_ends N u =
-        rw row_number
-        (leb_less N s.longs (s.shorts + all_cuts s * s.longs) (omega (arith, u.below)) ∙ sym (ends_inexact s p.all.short_positive some N))
+    pub row_fits : points s + c.number * s.longs ≤ 2 ^ 62
+    row_fits = row_cutting.able.fits
 
-    pub row_step : (odd : Bool) (N : ℕ) {m : Nearest} {done : Bool} → m ≡ made odd c s → done ≡ ends N s
+    pub row_ends : leb (N - s.longs) (s.shorts + c.number * s.longs) ≡ ends N s
+    row_ends =
+        rw row_number
+        (leb_less N s.longs (s.shorts + all_cuts s * s.longs) (omega (arith, p.below)) ∙ sym (ends_inexact s p.all.short_positive some N))
+
+    pub row_step : (odd : Bool) {m : Nearest} {done : Bool} → m ≡ advanced odd c.number s → done ≡ ends N s
         → in_next_row done (row_of s c m) ≡ regular_next odd N s
-    row_step odd N = regular_by odd N s row_all
+    row_step odd = regular_by odd N s row_all
 
   -- whether the row is the last, by the division alone
-  pub divided_ends : (N : ℕ) → Unreached N s → eqb (s.long % s.short) 0 || leb (N - s.longs) (s.shorts + quotient s * s.longs) ≡ ends N s
-  divided_ends N u =
-      by_cases (ℕ_discrete (s.long % s.short) 0) (λ z. rw (eq-eqb (s.long % s.short) 0 z) (last_ends (rest_of ∙ z) N))
-      (λ n. rw (ne_eqb (s.long % s.short) 0 n) (rw number_of at (row_ends (λ z. n (sym rest_of ∙ z)) N u)))
+  pub divided_ends : eqb (s.long % s.short) 0 || leb (N - s.longs) (s.shorts + quotient s * s.longs) ≡ ends N s
+  divided_ends =
+      by_cases (ℕ_discrete (s.long % s.short) 0) (λ z. rw (eq-eqb (s.long % s.short) 0 z) (last_ends (rest_of ∙ z)))
+      (λ n. rw (ne_eqb (s.long % s.short) 0 n) (rw number_of at (row_ends (λ z. n (sym rest_of ∙ z)))))
 
   -- one cut may be enough, whichever it is
-  pub near_ends : (N : ℕ) → Unreached N s → N - s.shorts - s.longs ≤ s.longs → true ≡ ends N s
-  near_ends N u h =
-      by_cases (ℕ_discrete c.rest 0) (λ z. last_ends z N)
-      (λ n. sym (le-leb (N - s.longs) (s.shorts + c.number * s.longs) (omega (arith, h, mul-le-mul_right s.longs number_positive))) ∙ row_ends n N u)
+  pub near_ends : N - s.shorts - s.longs ≤ s.longs → true ≡ ends N s
+  near_ends h =
+      by_cases (ℕ_discrete c.rest 0) (λ z. last_ends z)
+      (λ n. sym (le-leb (N - s.longs) (s.shorts + c.number * s.longs) (omega (arith, h, mul-le-mul_right s.longs number_positive))) ∙ row_ends n)
 
   -- all cuts, whichever it is
   pub all_number : c.number - cond (eqb c.rest 0) 1 0 ≡ all_cuts s
@@ -150,13 +147,16 @@ module _ {s : State} (p : Steppable s) {c : Cuts} (e : c ≡ cuts_of (quotient s
       by_cases (ℕ_discrete c.rest 0) (λ e. rw (eq-eqb c.rest 0 e) (last_number e)) (λ n. rw (ne_eqb c.rest 0 n) (omega (arith, row_number n)))
 
   -- one after which the search goes on
-  module _ (N : ℕ) {done : Bool} (d : done ≡ ends N s) (l : done ≡ false) where
+  module _ {done : Bool} (d : done ≡ ends N s) (l : done ≡ false) where
     leaves : c.rest ≡ 0 → ⊥
-    leaves z = false≢true (sym l ∙ d ∙ sym (last_ends z N))
+    leaves z = false≢true (sym l ∙ d ∙ sym (last_ends z))
 
     pub on_cutting : Cutting c s
     on_cutting = row_cutting leaves
 
-    pub on_step : (odd : Bool) {m : Nearest} → m ≡ made odd c s → in_next_row false (row_of s c m) ≡ fine_next odd N s
+    pub on_number : c.number ≡ all_cuts s
+    on_number = row_number leaves
+
+    pub on_step : (odd : Bool) {m : Nearest} → m ≡ advanced odd c.number s → in_next_row false (row_of s c m) ≡ fine_next odd N s
     unfolding fine_next
-    on_step odd f = rw (sym d ∙ l) (row_step leaves odd N f (sym l ∙ d))
+    on_step odd f = rw (sym d ∙ l) (row_step leaves odd f (sym l ∙ d))

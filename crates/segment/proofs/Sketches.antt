@@ -3,52 +3,41 @@
 use mathlib.Core.Path.{◌≡◌, refl, sym, ◌∙◌, ap}
 use mathlib.Core.Bool.{Bool, true, false, not, cond, false≢true}
 use mathlib.Core.Logic.{⊎_elim, by_cases}
-use Prim.Native.Nat.{ℕ, suc, ◌+◌, ◌-◌, ◌*◌, ◌/◌, ◌%◌, ◌≤◌, ◌<◌}
+use mathlib.Mathlib.Data.Bool.Basic.{dichotomy}
+use Prim.Native.Nat.{ℕ, zero, suc, ◌+◌, ◌-◌, ◌*◌, ◌/◌, ◌%◌, ◌≤◌, ◌<◌}
 use native.Mathlib.Nat.{eq-zero-or-pos, mul-le-mul_right, div-mul-le_self, mod-lt, mod-eq_of_lt, mod-eq-sub-mod}
 use native.Mathlib.Decide.{dec_lt, ℕ_discrete}
 use native.Mathlib.Omega.{arith}
 use borrow.Author.Tests.{le-ltb, lt-ltb, eq-eqb, ne_eqb}
 use lib.Dec.{eqb, ltb}
 use Rattle.numbers.proofs.Remainders.{quotient_positive}
+use Rattle.numbers.specs.Parity.{is_odd}
 use Rattle.expansion.specs.Reached.Search.{regular}
+use Rattle.segment.specs.Walk.{after, GoesOn}
 use Rattle.geometry.specs.Segment.{Segment}
 use Rattle.segment.specs.Accepted.{Accepted}
-use Rattle.segment.specs.State.{quotient, all_cuts, first_state, cut_state, ends, regular_next, next, state_after}
-use Rattle.segment.specs.Sketch.{first_sketch, Divisible, next_row, even_next, from_lowest_cut, odd_next}
+use Rattle.segment.specs.State.{quotient, all_cuts, cut_state, ends, regular_next, walk_of, state_after}
+use Rattle.segment.specs.Sketch.{sketch_of, Divisible, next_row, from_lowest_cut, sketch_next, sketch_walk}
 use Rattle.segment.specs.declared.state.State.{State}
 use Rattle.segment.specs.declared.sketch.Sketch.{Sketch}
 use Rattle.segment.proofs.Advancing.{moved_left, moves_few, short_gap, left_alone, moved, by_division}
 use Rattle.segment.proofs.Rows.{cuts_exact, cuts_inexact, rest_exact, rest_inexact, leaves_some, divided_ends}
-use Rattle.segment.proofs.Invariant.{Running, row_few}
-use Rattle.segment.proofs.Steps.{positive, falls, unreached, steppable}
-use Rattle.segment.proofs.Stepping.{At, first_runs, first_done, running, goes_on, is_done}
-
--- a state without its argument and its part
-abbrev sketch_of : State → (wide : Bool) → Sketch
-sketch_of t l =
-    record {
-      long = t.long;
-      short = t.short;
-      longs = t.longs;
-      shorts = t.shorts;
-      distance = t.distance;
-      wide = l;
-      index = t.index;
-      done = t.done;
-    }
+use Rattle.segment.proofs.Invariant.{Running}
+use Rattle.segment.proofs.Steps.{positive, falls, steppable}
+use Rattle.segment.proofs.Walks.{step_is, stays}
+use Rattle.segment.proofs.Stepping.{running_after, goes_on}
 
 -- ---- a row that is the last, and any other
 
 module _ {s : Segment} {odd : Bool} {t : State} (r : Running regular s odd t) where
   -- the same test
   same_end : (d : ℕ) (l m : Bool) → (next_row s.count (sketch_of t l) d m).done ≡ ends s.count t
-  unfolding next_row
-  same_end d l m = divided_ends (steppable r) refl s.count (unreached r)
+  same_end d l m = divided_ends (steppable r) refl
 
   -- where the search goes on, the same row
   same_row : ends s.count t ≡ false → (d : ℕ) (l m : Bool) → d ≡ (regular_next odd s.count t).distance
       → next_row s.count (sketch_of t l) d m ≡ sketch_of (regular_next odd s.count t) m
-  unfolding next_row regular_next cut_state
+  unfolding regular_next cut_state
   same_row e d l m f =
       let h = leaves_some t (positive r) (falls r) s.count e in
       let row : next_row s.count (sketch_of t l) d m
@@ -59,9 +48,8 @@ module _ {s : Segment} {odd : Bool} {t : State} (r : Running regular s odd t) wh
         shorts = t.longs;
         distance = d;
         wide = m;
-        index = suc t.index;
         done = ends s.count t;
-      } = rw (rest_inexact t (positive r) h, cuts_inexact t (positive r) h, divided_ends (steppable r) refl s.count (unreached r)) in
+      } = rw (rest_inexact t (positive r) h, cuts_inexact t (positive r) h, divided_ends (steppable r) refl) in
       rw (← f) row
 
 -- ---- the distance after a row
@@ -69,20 +57,18 @@ module _ {s : Segment} {odd : Bool} {t : State} (r : Running regular s odd t) wh
 -- all moves from the left leave the remainder
 even_distance : {s : Segment} {t : State} → Running regular s false t → t.distance % t.short ≡ (regular_next false s.count t).distance
 unfolding regular_next cut_state
-even_distance {t = t} r = rw (← moved_left (all_cuts t) t (moves_few (steppable r)))
+even_distance {t = t} r = rw (← moved_left (all_cuts t) t (moves_few refl (steppable r).all))
 
 -- below the lowest cut the distance stays, else it is less by what the cuts leave
 pub below_lowest_cut : {d r : ℕ} → d < r → from_lowest_cut d r ≡ d
-unfolding from_lowest_cut
 below_lowest_cut {d} {r} h = rw (lt-ltb d r h) refl
 
 pub above_lowest_cut : {d r : ℕ} → r ≤ d → from_lowest_cut d r ≡ d - r
-unfolding from_lowest_cut
 above_lowest_cut {d} {r} h = rw (le-ltb d r h) refl
 
 -- with nothing left, it stays as well
 nothing_cut : {d r : ℕ} → r ≡ 0 → from_lowest_cut d r ≡ d
-nothing_cut z = above_lowest_cut (omega arith) ∙ omega arith
+nothing_cut {d} {r} z = above_lowest_cut {d = d} {r = r} (omega arith) ∙ omega arith
 
 module _ {s : Segment} {t : State} (r : Running regular s true t) where
   -- what all cuts leave of a long gap
@@ -129,7 +115,7 @@ unfolding regular_next cut_state
 wide_after_even {s} {t} r e =
     let h = leaves_some t (positive r) (falls r) s.count e in
     let same = cuts_inexact t (positive r) h in
-    let moves = moves_few (steppable r) in
+    let moves = moves_few refl (steppable r).all in
     rw (← moved_left (all_cuts t) t moves, same)
     (by_cases (ℕ_discrete (t.distance / t.short) (quotient t))
     (λ m. rw (eq-eqb (t.distance / t.short) (quotient t) m) (sym (le-ltb _ _ (past m))))
@@ -151,120 +137,98 @@ wide_after_even {s} {t} r e =
     short_of : t.distance / t.short < quotient t → t.argument + t.distance / t.short * t.longs < t.shorts + quotient t * t.longs
     short_of l = omega (arith, r.holds.gap.below, mul-le-mul_right t.longs l)
 
--- ---- for the loop
+-- ---- row by row
 
--- the sketch of a state of the search that is not done. At an odd row it tells whether the start lies in a long gap
-pub record Sketched (s : Segment) (odd : Bool) (k : Sketch) : Type 0 where
-  pub state : State
-  pub at_row : At regular s odd state
-  pub wide : Bool
-  pub is : k ≡ sketch_of state wide
-  pub wide_is : odd ≡ true → wide ≡ ltb state.argument state.longs
+-- a state, after n rows, and its sketch, while the search goes on. At an odd row the sketch tells whether the start lies in a long gap
+record Sketched (s : Segment) (n : ℕ) (k : Sketch) : Type 0 where
+  runs : Running regular s (is_odd n) (state_after regular s n)
+  wide : Bool
+  is : k ≡ sketch_of (state_after regular s n) wide
+  wide_is : is_odd n ≡ true → wide ≡ ltb (state_after regular s n).argument (state_after regular s n).longs
 
-module _ {s : Segment} {odd : Bool} {k : Sketch} (p : Sketched s odd k) where
-  -- its state has the invariant of the search
-  runs : Running regular s odd p.state
-  runs = running p.at_row
+-- it is done where the search is, and has its distance then
+record Follows (s : Segment) (n : ℕ) (k : Sketch) : Type 0 where
+  done_is : k.done ≡ (state_after regular s n).done
+  distance_is : k.distance ≡ (state_after regular s n).distance
+  sketched : k.done ≡ false → Sketched s n k
 
-  -- so that its row can be divided
-  pub divisible : Divisible s.count k
-  divisible =
-      let r = runs in
-      let t = p.state in
-      rw p.is (record {
-        short_positive = positive r;
-        below = omega (arith, (unreached r).below);
-        fits = ⊎_elim
-            (λ z. omega (arith, (steppable r).all.fits, ap (λ (n : ℕ). n * t.longs) (cuts_exact t (positive r) (falls r) z)))
-            (λ h. omega (arith, (steppable r).all.fits, ap (λ (n : ℕ). n * t.longs) (cuts_inexact t (positive r) h)))
-            (eq-zero-or-pos (t.long % t.short));
-        row = row_few r;
-      })
+-- so that its row can be divided
+divisible : {s : Segment} {n : ℕ} {k : Sketch} → Sketched s n k → Divisible s.count k
+divisible {s} {n} p =
+    let r = p.runs in
+    let t = state_after regular s n in
+    rw p.is (record {
+      short_positive = positive r;
+      below = omega (arith, (steppable r).below);
+      fits = ⊎_elim
+          (λ z. omega (arith, (steppable r).all.fits, ap (λ (n : ℕ). n * t.longs) (cuts_exact t (positive r) (falls r) z)))
+          (λ h. omega (arith, (steppable r).all.fits, ap (λ (n : ℕ). n * t.longs) (cuts_inexact t (positive r) h)))
+          (eq-zero-or-pos (t.long % t.short));
+    })
 
-  pub few : k.index < 29
-  few = divisible.row
-
--- the first, and where the search is done there
-module _ {s : Segment} (a : Accepted s) {k : Sketch} (e : k ≡ first_sketch s.unit s.step s.start s.count) where
-  abbrev first_is : State
-  first_is = first_state s.unit s.step s.start s.count
-
-  first_sketched : k ≡ sketch_of first_is true
-  unfolding first_sketch first_state
-  first_sketched = e
-
-  pub begins : k.done ≡ false → Sketched s false k
-  begins d =
-      record {
-        state = first_is;
-        at_row = first_runs regular a refl (sym (ap (λ (k : Sketch). k.done) first_sketched) ∙ d);
-        wide = true;
-        is = first_sketched;
-        wide_is = λ f. absurd (false≢true f);
-      }
-
-  pub begins_done : k.done ≡ true → k.distance ≡ (state_after regular s 29).distance
-  begins_done d =
-      ap (λ (k : Sketch). k.distance) first_sketched
-      ∙ ap (λ (t : State). t.distance) (first_done regular a refl (sym (ap (λ (k : Sketch). k.done) first_sketched) ∙ d))
-
--- a step of the search, and the sketch after it, which tells whether the start lies in a long gap where the next row asks that
-pub record Followed {s : Segment} {odd : Bool} {k : Sketch} (p : Sketched s odd k) (k' : Sketch) : Type 0 where
+-- the row of a sketch is that of its state, and tells whether the start lies in a long gap where the next row asks that
+record SameRow (s : Segment) (odd : Bool) (t : State) (wide : Bool) : Type 0 where
   wide_after : Bool
-  row : k' ≡ next_row s.count (sketch_of p.state p.wide) (regular_next odd s.count p.state).distance wide_after
-  wide_after_is : ends s.count p.state ≡ false → not odd ≡ true
-      → wide_after ≡ ltb (regular_next odd s.count p.state).argument (regular_next odd s.count p.state).longs
+  row : sketch_next odd s.count (sketch_of t wide) ≡ next_row s.count (sketch_of t wide) (regular_next odd s.count t).distance wide_after
+  wide_after_is : ends s.count t ≡ false → not odd ≡ true → wide_after ≡ ltb (regular_next odd s.count t).argument (regular_next odd s.count t).longs
 
-module _ {s : Segment} {k k' : Sketch} where
-  pub after_even : (p : Sketched s false k) → k' ≡ even_next s.count k → Followed p k'
-  unfolding even_next
-  after_even p e =
-      record {
-        wide_after = not (eqb (p.state.distance / p.state.short) (quotient p.state));
-        row = rw (← even_distance (runs p)) (rw p.is at e);
-        wide_after_is = λ on _. wide_after_even (runs p) on;
-      }
+same : {s : Segment} (odd : Bool) {t : State} → Running regular s odd t → (wide : Bool) → (odd ≡ true → wide ≡ ltb t.argument t.longs) → SameRow s odd t wide
+same false {t} r l w =
+    record {
+      wide_after = not (eqb (t.distance / t.short) (quotient t));
+      row = rw (← even_distance r);
+      wide_after_is = λ on _. wide_after_even r on;
+    }
+same true r l w =
+    record {
+      wide_after = true;
+      row = rw (← odd_distance r, ← w refl);
+      wide_after_is = λ _ f. absurd (false≢true f);
+    }
 
-  pub after_odd : (p : Sketched s true k) → k' ≡ odd_next s.count k → Followed p k'
-  unfolding odd_next
-  after_odd p e =
-      record {
-        wide_after = true;
-        row = rw (← odd_distance (runs p), ← p.wide_is refl) (rw p.is at e);
-        wide_after_is = λ _ f. absurd (false≢true f);
-      }
-
-module _ {s : Segment} {odd : Bool} {k k' : Sketch} {p : Sketched s odd k} (f : Followed p k') where
-  step_is : regular_next odd s.count p.state ≡ next regular odd s.count p.state
-  unfolding next
-  step_is = refl
-
-  done_is : k'.done ≡ ends s.count p.state
-  done_is = ap (λ (k : Sketch). k.done) f.row ∙ same_end (runs p) _ p.wide f.wide_after
-
-  pub sketch_on : k'.done ≡ false → Sketched s (not odd) k'
+module _ {s : Segment} (a : Accepted s) where
+  follows : (n : ℕ) → Follows s n (after sketch_walk s n)
   unfolding regular_next
-  sketch_on d =
-      let on : ends s.count p.state ≡ false = sym done_is ∙ d in
+  follows zero = unfold after in record {
+    done_is = refl;
+    distance_is = refl;
+    sketched = λ d. record { runs = running_after regular a 0 d; wide = true; is = refl; wide_is = λ f. absurd (false≢true f) };
+  }
+  follows (suc n) =
+      let f = follows n in
+      ⊎_elim
+      (λ e. let p = f.sketched e in
+      let q = same (is_odd n) p.runs p.wide p.wide_is in
+      let k_is = step_is sketch_walk s n e ∙ ap (sketch_next (is_odd n) s.count) p.is ∙ q.row in
+      let t_is = step_is (walk_of regular) s n (sym f.done_is ∙ e) in
+      let done_is = ap (λ (k : Sketch). k.done) k_is ∙ same_end p.runs (regular_next (is_odd n) s.count (state_after regular s n)).distance p.wide q.wide_after in
       record {
-        state = regular_next odd s.count p.state;
-        at_row = goes_on p.at_row step_is on;
-        wide = f.wide_after;
-        is = f.row ∙ same_row (runs p) on _ p.wide f.wide_after refl;
-        wide_is = f.wide_after_is on;
+        done_is = done_is ∙ sym (ap (λ (t : State). t.done) t_is);
+        distance_is = ap (λ (k : Sketch). k.distance) k_is ∙ sym (ap (λ (t : State). t.distance) t_is);
+        sketched = λ d. let on : ends s.count (state_after regular s n) ≡ false = sym done_is ∙ d in
+            record {
+              runs = running_after regular a (suc n) (ap (λ (t : State). t.done) t_is ∙ on);
+              wide = q.wide_after;
+              is = k_is ∙ same_row p.runs on _ p.wide q.wide_after refl ∙ ap (λ (t : State). sketch_of t q.wide_after) (sym t_is);
+              wide_is = λ o. q.wide_after_is on o ∙ sym (ap (λ (t : State). ltb t.argument t.longs) t_is);
+            };
+      })
+      (λ e. let k_is = stays sketch_walk s n e in
+      let t_is = stays (walk_of regular) s n (sym f.done_is ∙ e) in
+      record {
+        done_is = ap (λ (k : Sketch). k.done) k_is ∙ f.done_is ∙ sym (ap (λ (t : State). t.done) t_is);
+        distance_is = ap (λ (k : Sketch). k.distance) k_is ∙ f.distance_is ∙ sym (ap (λ (t : State). t.distance) t_is);
+        sketched = λ d. absurd (false≢true (sym d ∙ ap (λ (k : Sketch). k.done) k_is ∙ e));
+      })
+      (dichotomy (after sketch_walk s n).done)
+
+  pub sketch_goes_on : GoesOn sketch_walk Divisible s
+  sketch_goes_on =
+      record {
+        few = λ n e. (goes_on regular a).few n (sym (follows n).done_is ∙ e);
+        able = λ n e. divisible ((follows n).sketched e);
       }
 
-  pub sketch_done : k'.done ≡ true → k'.distance ≡ (state_after regular s 29).distance
-  unfolding next_row regular_next
-  sketch_done d = ap (λ (k : Sketch). k.distance) f.row ∙ ap (λ (t : State). t.distance) (is_done p.at_row step_is (sym done_is ∙ d))
-
--- ---- a step goes one row on
-
-module _ (N : ℕ) (k : Sketch) {k' : Sketch} where
-  pub even_index : k' ≡ even_next N k → k'.index ≡ suc k.index
-  unfolding even_next next_row
-  even_index e = ap (λ (k : Sketch). k.index) e
-
-  pub odd_index : k' ≡ odd_next N k → k'.index ≡ suc k.index
-  unfolding odd_next next_row
-  odd_index e = ap (λ (k : Sketch). k.index) e
+  -- it ends with the distance of the search
+  pub sketch_distance : (after sketch_walk s 29).distance ≡ (state_after regular s 29).distance
+  sketch_distance = (follows 29).distance_is

@@ -1,11 +1,11 @@
 -- A search step by step: the invariant holds after every step, each step makes more points, and 29 steps are enough. Assumes nothing.
 use mathlib.Core.Path.{◌≡◌, refl, sym, ◌∙◌, ap}
-use mathlib.Core.Bool.{Bool, true, false, not, cond, false≢true}
+use mathlib.Core.Bool.{Bool, true, false, not, false≢true}
 use mathlib.Core.List.Memᴰ
 use mathlib.Core.Logic.{⊎_elim}
 use mathlib.Mathlib.Data.Bool.Basic.{dichotomy}
-use Prim.Native.Nat.{ℕ, zero, suc, ◌+◌, ◌-◌, ◌<◌}
-use native.Mathlib.Nat.{le_refl, add-zero, add-suc}
+use Prim.Native.Nat.{ℕ, zero, suc, ◌<◌}
+use native.Mathlib.Nat.{le_refl}
 use native.Mathlib.Omega.{arith}
 use Rattle.numbers.specs.Parity.{is_odd}
 use Rattle.expansion.specs.Configurations.{configuration}
@@ -17,51 +17,32 @@ use Rattle.geometry.specs.Segment.{Segment, residue}
 use Rattle.geometry.specs.TwoLength.{Least}
 use Rattle.geometry.proofs.Laws.{short_positive, least}
 use Rattle.segment.specs.Accepted.{Accepted}
-use Rattle.segment.specs.State.{points, first_state, next, state_after}
+use Rattle.segment.specs.Walk.{after, GoesOn}
+use Rattle.segment.specs.State.{points, next, Steppable, walk_of, state_after}
 use Rattle.segment.specs.Promise.{AtConfiguration, StepsCorrect}
 use Rattle.segment.specs.declared.state.State.{State}
 use Rattle.segment.proofs.Invariant.{Ended, Running, SearchInvariant, ends_here, begins, row_few}
-use Rattle.segment.proofs.Steps.{regular_step, fine_step, regular_index, fine_index, regular_grows, fine_grows}
+use Rattle.segment.proofs.Steps.{steppable, regular_step, fine_step, regular_index, fine_index, regular_grows, fine_grows}
+use Rattle.segment.proofs.Walks.{step_is, stays, done_29}
 
 -- ---- one step
 
 -- it keeps the invariant
 kept : (k : Search) {s : Segment} {odd : Bool} {t : State} → Running k s odd t → SearchInvariant k s (not odd) (next k odd s.count t)
-unfolding next
-kept regular r = regular_step r refl
-kept fine r = fine_step r refl
+kept regular r = regular_step r
+kept fine r = fine_step r
 
 -- makes more points
 grows : (k : Search) {s : Segment} {odd : Bool} {t : State} → Running k s odd t → points t < points (next k odd s.count t)
-unfolding next
 grows regular r = regular_grows r
 grows fine r = fine_grows r
 
 -- and draws a quotient, if the search goes on after it
 draws : (k : Search) (odd : Bool) (N : ℕ) (t : State) → (next k odd N t).done ≡ false → (next k odd N t).index ≡ suc t.index
-unfolding next
-draws regular odd N t d = regular_index odd N t refl
-draws fine odd N t d = fine_index odd N t refl d
+draws regular odd N t d = regular_index odd N t
+draws fine odd N t d = fine_index odd N t d
 
 -- ---- one after another
-
-module _ (k : Search) (s : Segment) where
-  -- the next state, where it is told whether the search is done
-  chosen : (n : ℕ) {b : Bool} → (state_after k s n).done ≡ b
-      → state_after k s (suc n) ≡ cond b (state_after k s n) (next k (is_odd n) s.count (state_after k s n))
-  unfolding state_after
-  chosen n e = ap (λ (b : Bool). cond b (state_after k s n) (next k (is_odd n) s.count (state_after k s n))) e
-
-  step_is : (n : ℕ) → (state_after k s n).done ≡ false → state_after k s (suc n) ≡ next k (is_odd n) s.count (state_after k s n)
-  step_is n = chosen n
-
-  stays : (n : ℕ) → (state_after k s n).done ≡ true → state_after k s (suc n) ≡ state_after k s n
-  stays n = chosen n
-
-  stays_on : (n m : ℕ) → (state_after k s n).done ≡ true → state_after k s (n + m) ≡ state_after k s n
-  stays_on n zero e = rw add-zero
-  stays_on n (suc m) e =
-      rw (add-suc n m) (let h = stays_on n m e in stays (n + m) (ap (λ (t : State). t.done) h ∙ e) ∙ h)
 
 -- after n steps: the invariant, and n quotients drawn if the search is not done
 record Stepped (k : Search) (s : Segment) (n : ℕ) (t : State) : Type 0 where
@@ -70,30 +51,34 @@ record Stepped (k : Search) (s : Segment) (n : ℕ) (t : State) : Type 0 where
 
 module _ (k : Search) {s : Segment} (a : Accepted s) where
   stepped : (n : ℕ) → Stepped k s n (state_after k s n)
-  stepped zero = record { invariant = unfold state_after in begins k s a refl; drawn = unfold state_after first_state in λ _. refl }
+  stepped zero = record { invariant = unfold after in begins k s a refl; drawn = unfold after in λ _. refl }
   stepped (suc n) =
       let w = stepped n in
       ⊎_elim
       (λ e. let r = w.invariant.running e in
-      rw (step_is k s n e) (record {
+      rw (step_is (walk_of k) s n e) (record {
         invariant = kept k r;
         drawn = λ d. draws k (is_odd n) s.count (state_after k s n) d ∙ ap suc (w.drawn e);
       }))
-      (λ e. rw (stays k s n e) (record {
+      (λ e. rw (stays (walk_of k) s n e) (record {
         invariant = ends_here (w.invariant.ended e) e;
         drawn = λ d. absurd (false≢true (sym d ∙ e));
       }))
       (dichotomy (state_after k s n).done)
 
-  running_after : (n : ℕ) → (state_after k s n).done ≡ false → Running k s (is_odd n) (state_after k s n)
+  pub running_after : (n : ℕ) → (state_after k s n).done ≡ false → Running k s (is_odd n) (state_after k s n)
   running_after n = (stepped n).invariant.running
 
-  few : (n : ℕ) → (state_after k s n).done ≡ false → n < 29
-  few n e = omega (arith, row_few (running_after n e), (stepped n).drawn e)
+  -- where a row can be taken; 29 are enough
+  pub goes_on : GoesOn (walk_of k) Steppable s
+  goes_on =
+      record {
+        few = λ n e. omega (arith, row_few (running_after n e), (stepped n).drawn e);
+        able = λ n e. steppable (running_after n e);
+      }
 
-  -- 29 steps are enough
   done_within : (state_after k s 29).done ≡ true
-  done_within = ⊎_elim (λ e. absurd (omega (arith, few 29 e))) (λ e. e) (dichotomy (state_after k s 29).done)
+  done_within = done_29 goes_on
 
   pub ended : Ended k s (state_after k s 29)
   ended = (stepped 29).invariant.ended done_within
@@ -135,55 +120,16 @@ module _ (k : Search) {s : Segment} (a : Accepted s) where
   steps_correct =
       record {
         at_configuration = at_configuration;
-        begins_at_one = unfold state_after first_state in refl;
-        step_is = step_is k s;
-        later = λ n e. rw (step_is k s n e) (grows k (running_after n e));
+        begins_at_one = unfold after in refl;
+        step_is = step_is (walk_of k) s;
+        later = λ n e. rw (step_is (walk_of k) s n e) (grows k (running_after n e));
         not_enough = λ n e. (running_after n e).below;
         drawn = λ n. (stepped n).drawn;
-        one_quotient = λ n q e. ap (λ (t : State). t.index) (step_is k s n e) ∙ always q (is_odd n) s.count (state_after k s n) ∙ ap suc ((stepped n).drawn e);
+        one_quotient = λ n q e. ap (λ (t : State). t.index) (step_is (walk_of k) s n e) ∙ always q (is_odd n) s.count (state_after k s n) ∙ ap suc ((stepped n).drawn e);
         reaches = λ n e. sym ((stepped n).invariant.ended e).label;
         within_29 = done_within;
       }
     where
       -- the regular step always draws one
       always : k ≡ regular → (odd : Bool) (N : ℕ) (t : State) → (next k odd N t).index ≡ suc t.index
-      always q odd N t = rw q (unfold next in regular_index odd N t refl)
-
--- ---- for the loops
-
--- a state of a search that is not done, at an even or at an odd row
-pub record At (k : Search) (s : Segment) (odd : Bool) (t : State) : Type 0 where
-  pub accepted : Accepted s
-  pub steps : ℕ
-  pub is : t ≡ state_after k s steps
-  pub parity : is_odd steps ≡ odd
-  pub runs : t.done ≡ false
-
-module _ (k : Search) {s : Segment} (a : Accepted s) {t : State} (e : t ≡ first_state s.unit s.step s.start s.count) where
-  pub first_runs : t.done ≡ false → At k s false t
-  unfolding state_after
-  first_runs d = record { accepted = a; steps = 0; is = e; parity = refl; runs = d }
-
-  pub first_done : t.done ≡ true → t ≡ state_after k s 29
-  unfolding state_after
-  first_done d = e ∙ sym (stays_on k s 0 29 (ap (λ (t : State). t.done) (sym e) ∙ d))
-
-module _ {k : Search} {s : Segment} {odd : Bool} {t : State} (p : At k s odd t) where
-  not_done : (state_after k s p.steps).done ≡ false
-  not_done = ap (λ (t : State). t.done) (sym p.is) ∙ p.runs
-
-  pub running : Running k s odd t
-  running = rw (p.parity, sym p.is) at (running_after k p.accepted p.steps not_done)
-
-  module _ {t' : State} (e : t' ≡ next k odd s.count t) where
-    next_is : t' ≡ state_after k s (suc p.steps)
-    next_is = e ∙ (rw (p.parity, sym p.is) at (sym (step_is k s p.steps not_done)))
-
-    pub goes_on : t'.done ≡ false → At k s (not odd) t'
-    goes_on d = record { accepted = p.accepted; steps = suc p.steps; is = next_is; parity = ap not p.parity; runs = d }
-
-    pub is_done : t'.done ≡ true → t' ≡ state_after k s 29
-    is_done d =
-        let few : p.steps < 29 = few k p.accepted p.steps not_done in
-        let end : suc p.steps + (28 - p.steps) ≡ 29 = omega arith in
-        next_is ∙ sym (rw end at (stays_on k s (suc p.steps) (28 - p.steps) (ap (λ (t : State). t.done) (sym next_is) ∙ d)))
+      always q odd N t = rw q (regular_index odd N t)

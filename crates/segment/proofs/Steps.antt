@@ -17,7 +17,7 @@ use Rattle.expansion.proofs.Laws.{relabelled, row_reached, regular_on, regular_p
 use Rattle.geometry.specs.Segment.{Segment}
 use Rattle.geometry.proofs.Laws.{short_positive, longs_positive, turned, distance_below, least}
 use Rattle.segment.specs.Search.{reached_in}
-use Rattle.segment.specs.State.{points, quotient, all_cuts, cuts_to, last_cuts, cut_state, finished, ends, Steppable, Unreached, regular_next, fine_next}
+use Rattle.segment.specs.State.{points, quotient, all_cuts, cuts_to, last_cuts, cut_state, finished, ends, Steppable, regular_next, fine_next}
 use Rattle.segment.specs.declared.state.State.{State}
 use Rattle.segment.proofs.Rows.{cuts_exact, cuts_inexact, rest_inexact, ends_inexact, leaves_some}
 use Rattle.segment.proofs.Invariant.{Ended, StateHolds, points_fit, cut_holds, ended_at, Running, SearchInvariant, ends_here, runs, row_few}
@@ -52,10 +52,7 @@ module _ {k : Search} {s : Segment} {odd : Bool} {t : State} (r : Running k s od
   all_grow = omega (arith, mul-le-mul_right t.longs all_some, longs_positive r.holds.lengths r.falls)
 
   -- what the code asks for a step
-  pub unreached : Unreached s.count t
-  unreached = record { longs_positive = longs_positive r.holds.lengths r.falls; below = r.below }
-
-  pub steppable : Steppable t
+  pub steppable : Steppable s.count t
   unfolding cut_state
   steppable =
       record {
@@ -67,6 +64,8 @@ module _ {k : Search} {s : Segment} {odd : Bool} {t : State} (r : Running k s od
           fits = omega (arith, r.accepted.unit_within, points_fit (cut_state odd (all_cuts t) t) all_holds);
         };
         falls = falls;
+        longs_positive = longs_positive r.holds.lengths r.falls;
+        below = r.below;
         row = row_few r;
       }
 
@@ -117,20 +116,20 @@ module _ {k : Search} {s : Segment} {odd : Bool} {t : State} (r : Running k s od
 
 -- ---- the regular search
 
-pub regular_step : {s : Segment} {odd : Bool} {t t' : State} → Running regular s odd t → t' ≡ regular_next odd s.count t
-    → SearchInvariant regular s (not odd) t'
+pub regular_step : {s : Segment} {odd : Bool} {t : State} → Running regular s odd t
+    → SearchInvariant regular s (not odd) (regular_next odd s.count t)
 unfolding regular_next cut_state
-regular_step {s} {odd} {t} r e =
+regular_step {s} {odd} {t} r =
     let on : (n : ℕ) → points t < n → reached regular s.unit s.step n ≡ after_row regular n t
     = λ n l. r.to_go n (le_of_lt l) ∙ regular_on _ _ _ _ _ _ r.falls (positive r) l in
-    rw e (record {
+    record {
       ended = λ e. ended_at _ (turned (all_holds r)) (⊎_elim
           (λ z. go_here r ∙ regular_period _ _ _ _ _ _ r.falls (positive r) r.below z
           ∙ relabelled (omega (arith, ap (λ (n : ℕ). n * t.longs) (cuts_exact t (positive r) (falls r) z))) refl refl)
           (λ h. next_reached r h (on s.count r.below) e)
           (eq-zero-or-pos (t.long % t.short)));
       running = λ e. next_running r (leaves_some t (positive r) (falls r) s.count e) (λ n l. on n (omega (arith, all_grow r))) e;
-    })
+    }
 
 -- ---- the fine search
 
@@ -157,7 +156,7 @@ module _ {s : Segment} {odd : Bool} {t : State} (r : Running fine s odd t) where
   enough : cuts < all_cuts t → s.count ≤ points t + cuts * t.longs
   enough l =
       let e : cuts ≡ cuts_to s.count t = omega arith in
-      omega (arith, lt-div-mul-add {a = s.count - t.shorts - 1} (unreached r).longs_positive, ap (λ (i : ℕ). i * t.longs) e)
+      omega (arith, lt-div-mul-add {a = s.count - t.shorts - 1} (steppable r).longs_positive, ap (λ (i : ℕ). i * t.longs) e)
 
   on_fine : 0 < t.long % t.short → (n : ℕ) → t.shorts + quotient t * t.longs < n → reached fine s.unit s.step n ≡ after_row fine n t
   on_fine h n l =
@@ -183,16 +182,16 @@ module _ {s : Segment} {odd : Bool} {t : State} (r : Running fine s odd t) where
       (eq-zero-or-pos (t.long % t.short)) in
       go_here r ∙ fine_part _ _ _ _ _ _ r.falls (positive r) cuts last.0 (λ _. before_below) last.1 ∙ relabelled (omega arith) (omega arith) refl
 
-  pub fine_step : {t' : State} → t' ≡ fine_next odd s.count t → SearchInvariant fine s (not odd) t'
+  pub fine_step : SearchInvariant fine s (not odd) (fine_next odd s.count t)
   unfolding fine_next
-  fine_step e = rw e (by (ends s.count t) refl)
+  fine_step = by (ends s.count t) refl
     where
       by : (b : Bool) → ends s.count t ≡ b → SearchInvariant fine s (not odd) (fine_next odd s.count t)
       by false e =
           let h = leaves_some t (positive r) (falls r) s.count e in
           let q = ap (λ (i : ℕ). i * t.longs) (cuts_inexact t (positive r) h) in
           let on : (n : ℕ) → t.shorts + all_cuts t * t.longs + t.longs ≤ n → reached fine s.unit s.step n ≡ after_row fine n t
-          = λ n l. on_fine h n (omega (arith, q, (unreached r).longs_positive)) in
+          = λ n l. on_fine h n (omega (arith, q, (steppable r).longs_positive)) in
           rw e (runs (next_running r h on e) (unfold regular_next in e))
       by true e =
           rw e
@@ -211,24 +210,25 @@ fine_grows {s} {odd} {t} r = by (ends s.count t) refl
   where
     some : 1 ≤ last_cuts s.count t
     some =
-        let u = unreached r in
+        let u = steppable r in
         omega (arith, all_some r, quotient_positive (s.count - t.shorts - 1) t.longs u.longs_positive (omega (arith, u.below)))
 
     by : (b : Bool) → ends s.count t ≡ b → points t < points (fine_next odd s.count t)
     by true e =
-        rw e (unfold cut_state in omega (arith, mul-le-mul_right t.longs some, (unreached r).longs_positive))
+        rw e (unfold cut_state in omega (arith, mul-le-mul_right t.longs some, (steppable r).longs_positive))
     by false e = rw e (unfold regular_next cut_state in all_grow r)
 
 -- ---- the index: a step that does not end the search goes one row on
 
-pub regular_index : (odd : Bool) (N : ℕ) (t : State) {t' : State} → t' ≡ regular_next odd N t → t'.index ≡ suc t.index
+pub regular_index : (odd : Bool) (N : ℕ) (t : State) → (regular_next odd N t).index ≡ suc t.index
 unfolding regular_next cut_state
-regular_index odd N t e = rw e
+regular_index odd N t = refl
 
-pub fine_index : (odd : Bool) (N : ℕ) (t : State) {t' : State} → t' ≡ fine_next odd N t → t'.done ≡ false → t'.index ≡ suc t.index
+pub fine_index : (odd : Bool) (N : ℕ) (t : State) → (fine_next odd N t).done ≡ false
+    → (fine_next odd N t).index ≡ suc t.index
 unfolding fine_next
-fine_index odd N t e = rw e (by (ends N t) refl)
+fine_index odd N t = by (ends N t) refl
   where
     by : (b : Bool) → ends N t ≡ b → (fine_next odd N t).done ≡ false → (fine_next odd N t).index ≡ suc t.index
     by true e = rw e (λ d. absurd (false≢true (sym d)))
-    by false e = rw e (λ _. regular_index odd N t refl)
+    by false e = rw e (λ _. regular_index odd N t)

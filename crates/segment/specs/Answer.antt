@@ -1,5 +1,7 @@
 -- What the two searches answer, and the verdict of the regular one alone. Assumes nothing: these are definitions.
-use Rattle.std.specs.Prelude.{ℕ, zero, suc}
+use Rattle.std.specs.Prelude.{ℕ, zero, suc, Result}
+use Rattle.numbers.specs.Refusals.{outcome}
+use Rattle.numbers.specs.declared.refusals.Refusal.{Refusal}
 use Rattle.expansion.specs.Reached.Search.{regular, fine}
 use Rattle.geometry.specs.Segment.{Segment}
 use Rattle.segment.specs.Accepted.{asked, refusal}
@@ -8,10 +10,6 @@ use Rattle.segment.specs.declared.Verdict.{Verdict}
 use Rattle.segment.specs.declared.Verdict.TheVariants.{Possible}
 use Rattle.segment.specs.declared.Regular.{Regular}
 use Rattle.segment.specs.declared.Fine.{Fine}
-use Rattle.segment.specs.declared.RegularAnswer.{RegularAnswer}
-use Rattle.segment.specs.declared.RegularAnswer.TheVariants as regular_variants
-use Rattle.segment.specs.declared.FineAnswer.{FineAnswer}
-use Rattle.segment.specs.declared.FineAnswer.TheVariants as fine_variants
 
 -- what the regular search shows of a segment: the quotients drawn are the index of the configuration reached
 unfoldable pub regular_shown : Segment → Regular
@@ -36,22 +34,13 @@ fine_shown s =
       verdict = verdict fine s;
     }
 
--- the answer where the checklist gives this number
-unfoldable pub regular_answer_with : (number : ℕ) → Segment → RegularAnswer
-regular_answer_with zero s = regular_variants.Shown (regular_shown s)
-regular_answer_with (suc n) s = regular_variants.Refused (suc n)
-
-unfoldable pub fine_answer_with : (number : ℕ) → Segment → FineAnswer
-fine_answer_with zero s = fine_variants.Shown (fine_shown s)
-fine_answer_with (suc n) s = fine_variants.Refused (suc n)
-
 -- the regular search's answer for modulus, step, start, count and window
-unfoldable pub regular_answer : (M a b N w : ℕ) → RegularAnswer
-regular_answer M a b N w = regular_answer_with (refusal (asked M a b N w)) (asked M a b N w)
+unfoldable pub regular_answer : (M a b N w : ℕ) → Result Regular Refusal
+regular_answer M a b N w = outcome (refusal (asked M a b N w)) (regular_shown (asked M a b N w))
 
 -- the fine search's
-unfoldable pub fine_answer : (M a b N w : ℕ) → FineAnswer
-fine_answer M a b N w = fine_answer_with (refusal (asked M a b N w)) (asked M a b N w)
+unfoldable pub fine_answer : (M a b N w : ℕ) → Result Fine Refusal
+fine_answer M a b N w = outcome (refusal (asked M a b N w)) (fine_shown (asked M a b N w))
 
 -- the verdict of the regular search alone: possible where a number refuses
 unfoldable pub regular_verdict_with : (number : ℕ) → Segment → Verdict
@@ -60,12 +49,3 @@ regular_verdict_with (suc n) s = Possible
 
 unfoldable pub regular_verdict : (M a b N w : ℕ) → Verdict
 regular_verdict M a b N w = regular_verdict_with (refusal (asked M a b N w)) (asked M a b N w)
-
--- the number of a refusal; 0 where something is shown
-unfoldable pub regular_refusal : RegularAnswer → ℕ
-regular_refusal (regular_variants.Refused n) = n
-regular_refusal (regular_variants.Shown r) = 0
-
-unfoldable pub fine_refusal : FineAnswer → ℕ
-fine_refusal (fine_variants.Refused n) = n
-fine_refusal (fine_variants.Shown f) = 0

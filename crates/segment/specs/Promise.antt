@@ -1,9 +1,12 @@
 -- What is promised of both searches (the third demand), with the letters of document 01: M the modulus, a the step, b the start, N the count,
 -- w the window, P the period. `Promised`, at the end, is all of it; proofs/Promises.antt proves it. Assumes nothing: these are statements.
-use Rattle.std.specs.Prelude.{◌≡◌, Bool, true, false, ◌↔◌, ◌⊎◌, ℕ, suc, ◌+◌, ◌^◌, ◌≤◌, ◌<◌}
+use Rattle.std.specs.Prelude.{◌≡◌, Bool, true, false, ◌↔◌, ◌⊎◌, ℕ, suc, ◌+◌, ◌^◌, ◌≤◌, ◌<◌, Result, Ok, Err}
 use mathlib.Core.List.{List, [], ◌∷◌, Memᴰ}
 use Rattle.numbers.specs.Parity.{is_odd}
 use Rattle.numbers.specs.Checklist.{Condition, condition, RefusedBy}
+use Rattle.numbers.specs.Refusals.{number_of}
+use Rattle.numbers.specs.declared.refusals.Refusal.{Refusal}
+use Rattle.numbers.specs.declared.refusals.Refusal.TheVariants.{Window}
 use Rattle.expansion.specs.Rows.{period}
 use Rattle.expansion.specs.Configurations.{Configuration, configuration}
 use Rattle.expansion.specs.Configurations as expansion
@@ -21,10 +24,6 @@ use Rattle.segment.specs.declared.Verdict.{Verdict}
 use Rattle.segment.specs.declared.Verdict.TheVariants.{Clear, Possible}
 use Rattle.segment.specs.declared.Regular.{Regular}
 use Rattle.segment.specs.declared.Fine.{Fine}
-use Rattle.segment.specs.declared.RegularAnswer.{RegularAnswer}
-use Rattle.segment.specs.declared.RegularAnswer.TheVariants as regular_variants
-use Rattle.segment.specs.declared.FineAnswer.{FineAnswer}
-use Rattle.segment.specs.declared.FineAnswer.TheVariants as fine_variants
 
 -- ---- refusals
 
@@ -58,16 +57,16 @@ pub record ShownCorrect (configurations : List Configuration) (s : Segment) (c :
 
 -- what an answer says, case by case: a refusal has its number alone; what is shown is of an accepted segment. The quotients that a regular
 -- search drew are the index of its configuration, and at most 29
-unfoldable pub RegularAnswerCorrect : Segment → RegularAnswer → Type 0
-RegularAnswerCorrect s (regular_variants.Refused n) = RefusedFor s n
-RegularAnswerCorrect s (regular_variants.Shown r) =
+unfoldable pub RegularAnswerCorrect : Segment → Result Regular Refusal → Type 0
+RegularAnswerCorrect s (Err r) = RefusedFor s (number_of r)
+RegularAnswerCorrect s (Ok r) =
     Accepted s
     × ShownCorrect (expansion.regular s.unit s.step) s (configuration r.count r.quotients 0) r.distance r.argument r.verdict
     × (r.quotients ≤ 29)
 
-unfoldable pub FineAnswerCorrect : Segment → FineAnswer → Type 0
-FineAnswerCorrect s (fine_variants.Refused n) = RefusedFor s n
-FineAnswerCorrect s (fine_variants.Shown f) =
+unfoldable pub FineAnswerCorrect : Segment → Result Fine Refusal → Type 0
+FineAnswerCorrect s (Err r) = RefusedFor s (number_of r)
+FineAnswerCorrect s (Ok f) =
     Accepted s
     × ShownCorrect (expansion.fine s.unit s.step) s (configuration f.count f.index f.part) f.distance f.argument f.verdict
 
@@ -98,13 +97,13 @@ pub record StepsCorrect (k : Search) (s : Segment) : Type 0 where
 -- ---- one search beside another
 
 -- a segment is cleared by a search that answers clear for it
-unfoldable pub RegularClears : RegularAnswer → Type 0
-RegularClears (regular_variants.Refused n) = ⊥
-RegularClears (regular_variants.Shown r) = r.verdict ≡ Clear
+unfoldable pub RegularClears : Result Regular Refusal → Type 0
+RegularClears (Err e) = ⊥
+RegularClears (Ok r) = r.verdict ≡ Clear
 
-unfoldable pub FineClears : FineAnswer → Type 0
-FineClears (fine_variants.Refused n) = ⊥
-FineClears (fine_variants.Shown f) = f.verdict ≡ Clear
+unfoldable pub FineClears : Result Fine Refusal → Type 0
+FineClears (Err e) = ⊥
+FineClears (Ok f) = f.verdict ≡ Clear
 
 unfoldable pub Cleared : Search → (M a b N w : ℕ) → Type 0
 Cleared regular M a b N w = RegularClears (regular_answer M a b N w)
@@ -119,7 +118,7 @@ SmallerCleared =
 -- the fine search reaches no more points than the regular one
 abbrev pub FineReachesNoMore : Type 0
 FineReachesNoMore =
-    (M a b N w : ℕ) (r : Regular) (f : Fine) → regular_answer M a b N w ≡ regular_variants.Shown r → fine_answer M a b N w ≡ fine_variants.Shown f
+    (M a b N w : ℕ) (r : Regular) (f : Fine) → regular_answer M a b N w ≡ Ok r → fine_answer M a b N w ≡ Ok f
     → f.count ≤ r.count
 
 -- the verdict of a search of an accepted segment is clear exactly where the search clears it, which is where the distance is at least the window, and
@@ -142,7 +141,7 @@ pub record WithoutWindow (M a b N : ℕ) : Type 0 where
   pub none_hard : (x : ℕ) → for_segment (λ s. Hard s x → ⊥) M a b N 0
   pub not_cleared : (k : Search) → Cleared k M a b N 0 → ⊥
   pub refused : 2 ≤ M → M ≤ 2 ^ 62 → a < M → b < M → 1 ≤ N → N ≤ 1048576
-      → (refusal (asked M a b N 0) ≡ 5) × (regular_answer M a b N 0 ≡ regular_variants.Refused 5) × (fine_answer M a b N 0 ≡ fine_variants.Refused 5)
+      → (refusal (asked M a b N 0) ≡ 5) × (regular_answer M a b N 0 ≡ Err Window) × (fine_answer M a b N 0 ≡ Err Window)
 
 -- all of it: a number refuses exactly where its condition is the first that does not hold
 pub record Promised : Type 0 where
@@ -157,8 +156,8 @@ pub record Promised : Type 0 where
   pub refused : (M a b N w n : ℕ) → for_segment (λ s. (refusal s ≡ suc n) ↔ RefusedFor s (suc n)) M a b N w
   pub regular_answers : (M a b N w : ℕ) → for_segment (λ s. RegularAnswerCorrect s (regular_answer M a b N w)) M a b N w
   pub fine_answers : (M a b N w : ℕ) → for_segment (λ s. FineAnswerCorrect s (fine_answer M a b N w)) M a b N w
-  pub regular_refused : (M a b N w n : ℕ) → for_segment (λ s. (regular_answer M a b N w ≡ regular_variants.Refused n) ↔ RefusedFor s n) M a b N w
-  pub fine_refused : (M a b N w n : ℕ) → for_segment (λ s. (fine_answer M a b N w ≡ fine_variants.Refused n) ↔ RefusedFor s n) M a b N w
+  pub regular_refused : (M a b N w : ℕ) (r : Refusal) → for_segment (λ s. (regular_answer M a b N w ≡ Err r) ↔ RefusedFor s (number_of r)) M a b N w
+  pub fine_refused : (M a b N w : ℕ) (r : Refusal) → for_segment (λ s. (fine_answer M a b N w ≡ Err r) ↔ RefusedFor s (number_of r)) M a b N w
   pub steps : (k : Search) (s : Segment) → Accepted s → StepsCorrect k s
   -- the step of each search is `regular_next` or `fine_next`, which the contracts of the steps in state.rt cite
   pub step_of : (odd : Bool) (N : ℕ) (t : State) → (next regular odd N t ≡ regular_next odd N t) × (next fine odd N t ≡ fine_next odd N t)

@@ -1,10 +1,10 @@
 -- The steps of the searches as functions of numbers, for the contracts of the functions that take them, and where a search stands after so many steps.
 -- specs/Promise.antt says what the steps are for. Assumes nothing: these are definitions.
-use Rattle.std.specs.Prelude.{◌≡◌, Bool, true, false, ◌||◌, cond, ℕ, zero, suc, ◌+◌, ◌-◌, ◌*◌, ◌/◌, ◌^◌, ◌≤◌, ◌<◌, min, eqb, leb, ltb}
-use Rattle.numbers.specs.Parity.{is_odd}
+use Rattle.std.specs.Prelude.{◌≡◌, Bool, true, false, ◌||◌, cond, ℕ, suc, ◌+◌, ◌-◌, ◌*◌, ◌/◌, ◌^◌, ◌≤◌, ◌<◌, min, eqb, leb, ltb}
 use Rattle.expansion.specs.Reached.{Search}
 use Rattle.expansion.specs.Reached.Search.{regular, fine}
 use Rattle.geometry.specs.Segment.{Segment}
+use Rattle.segment.specs.Walk.{Walking, after}
 use Rattle.segment.specs.declared.state.State.{State}
 use Rattle.segment.specs.declared.state.Cuts.{Cuts}
 use Rattle.segment.specs.declared.state.Nearest.{Nearest}
@@ -14,7 +14,7 @@ abbrev pub points : State → ℕ
 points s = s.longs + s.shorts
 
 -- one point: done where the step is 0 or the count is 1
-unfoldable pub first_state : (M a b N : ℕ) → State
+abbrev pub first_state : (M a b N : ℕ) → State
 first_state M a b N =
     record {
       long = M;
@@ -63,16 +63,13 @@ pub record Cutting (c : Cuts) (s : State) : Type 0 where
   pub able : Cuttable c.number s
   pub rest_is : c.rest ≡ s.long - c.number * s.short
 
--- all cuts can be made, and another row fits the budget
-pub record Steppable (s : State) : Type 0 where
+-- a row can be taken: all its cuts can be made, N is not reached, and another row fits the budget
+pub record Steppable (N : ℕ) (s : State) : Type 0 where
   pub all : Cuttable (all_cuts s) s
   pub falls : s.short ≤ s.long
-  pub row : s.index < 29
-
--- N is not reached
-pub record Unreached (N : ℕ) (s : State) : Type 0 where
   pub longs_positive : 0 < s.longs
   pub below : points s < N
+  pub row : s.index < 29
 
 -- ---- the point below the start
 
@@ -168,11 +165,14 @@ fine_next odd N s =
 -- ---- one step after another
 
 -- the step of a search
-unfoldable pub next : Search → (odd : Bool) → (N : ℕ) → State → State
+abbrev pub next : Search → (odd : Bool) → (N : ℕ) → State → State
 next regular odd N s = regular_next odd N s
 next fine odd N s = fine_next odd N s
 
--- where a search stands after so many steps, even and odd rows taking turns; once it is done, it stays there
-unfoldable pub state_after : Search → Segment → (steps : ℕ) → State
-state_after k s zero = first_state s.unit s.step s.start s.count
-state_after k s (suc n) = cond (state_after k s n).done (state_after k s n) (next k (is_odd n) s.count (state_after k s n))
+-- the search, from where it begins
+abbrev pub walk_of : Search → Walking State
+walk_of k = record { first = λ s. first_state s.unit s.step s.start s.count; done = λ t. t.done; next = next k }
+
+-- where a search stands after so many steps
+abbrev pub state_after : Search → Segment → (steps : ℕ) → State
+state_after k = after (walk_of k)

@@ -4,19 +4,32 @@
 #![tactic(auto)]
 
 ghost use Rattle.std.specs.Prelude.{◌≡◌};
-ghost use Rattle.expansion.specs.Reached.Search.{regular, fine};
-ghost use Rattle.segment.specs.Accepted.{asked, refusal, Accepted};
+ghost use Rattle.numbers.specs.Refusals.{tested};
+ghost use Rattle.segment.specs.Accepted.{asked, refusal};
 ghost use Rattle.segment.specs.Search.{verdict_at};
 ghost use Rattle.segment.specs.Answer.{regular_answer, fine_answer, regular_verdict};
-ghost use Rattle.segment.specs.State.{state_after};
 
 mod sketch;
 mod state;
+mod walk;
 
-use state::{State, fine_even, fine_odd, first, regular_even, regular_odd};
+use numbers::Refusal;
+use sketch::DistanceWalk;
+use state::{FineWalk, RegularWalk};
+use walk::end;
+
+// A segment, with the words of a job.
+#[derive(Clone, Copy, Debug, PartialEq, Eq)]
+pub struct Segment {
+    pub modulus: u64,
+    pub step: u64,
+    pub start: u64,
+    pub count: u64,
+    pub window: u64,
+}
 
 // Clear: the distance is at least the window. Possible: it is less, which does not yet make an argument below the count hard.
-#[derive(Clone, Copy)]
+#[derive(Clone, Copy, Debug, PartialEq, Eq)]
 pub enum Verdict {
     Clear,
     Possible,
@@ -44,174 +57,85 @@ pub struct Fine {
     pub verdict: Verdict,
 }
 
-// A refusal carries its number alone.
-#[derive(Clone, Copy)]
-pub enum RegularAnswer {
-    Refused(u32),
-    Shown(Regular),
-}
-
-#[derive(Clone, Copy)]
-pub enum FineAnswer {
-    Refused(u32),
-    Shown(Fine),
-}
-
 const LARGEST_COUNT: u64 = 1048576;
 
-// How many steps a search may take, each of which goes through a row. Every accepted segment is done by then.
-const BUDGET: u32 = 29;
-
-// The regular search: from each quotient to the next, to the first regular configuration that has at least as many points as the count,
-// or to that of the period where the count exceeds it. Refused as `refuse` says.
-pub fn regular_search(modulus: u64, step: u64, start: u64, count: u64, window: u64) -> RegularAnswer
-    ensures { result ≡ regular_answer modulus step start count window }
+// The regular search: from each quotient to the next, to the first regular configuration that has at
+// least as many points as the count, or to that of the period where the count exceeds it. Refused as
+// `refuse` says.
+pub fn regular_search(segment: Segment) -> Result<Regular, Refusal>
+    ensures { result ≡ regular_answer segment.modulus segment.step segment.start segment.count segment.window }
 {
-    let number = refuse(modulus, step, start, count, window);
-    if number != 0 {
-        return RegularAnswer::Refused(number);
-    }
-    let end = regular_end(modulus, step, start, count);
-    RegularAnswer::Shown(Regular {
+    refuse(segment)?;
+    let end = end::<RegularWalk>(segment.modulus, segment.step, segment.start, segment.count);
+    Ok(Regular {
         count: end.longs + end.shorts,
         quotients: end.index,
         distance: end.distance,
         argument: end.argument,
-        verdict: judge(end.distance, window),
+        verdict: judge(end.distance, segment.window),
     })
 }
 
-// The fine search: the same over the fine configurations, so that it stops at no more points; refused in the same cases.
-pub fn fine_search(modulus: u64, step: u64, start: u64, count: u64, window: u64) -> FineAnswer
-    ensures { result ≡ fine_answer modulus step start count window }
+// The fine search: the same over the fine configurations, so that it stops at no more points; refused
+// in the same cases.
+pub fn fine_search(segment: Segment) -> Result<Fine, Refusal>
+    ensures { result ≡ fine_answer segment.modulus segment.step segment.start segment.count segment.window }
 {
-    let number = refuse(modulus, step, start, count, window);
-    if number != 0 {
-        return FineAnswer::Refused(number);
-    }
-    let end = fine_end(modulus, step, start, count);
-    FineAnswer::Shown(Fine {
+    refuse(segment)?;
+    let end = end::<FineWalk>(segment.modulus, segment.step, segment.start, segment.count);
+    Ok(Fine {
         count: end.longs + end.shorts,
         index: end.index,
         part: end.part,
         distance: end.distance,
         argument: end.argument,
-        verdict: judge(end.distance, window),
+        verdict: judge(end.distance, segment.window),
     })
 }
 
 // The verdict of the regular search alone, in less time; possible where the search is refused.
-pub fn regular_verdict(modulus: u64, step: u64, start: u64, count: u64, window: u64) -> Verdict
-    ensures { result ≡ regular_verdict modulus step start count window }
+pub fn regular_verdict(segment: Segment) -> Verdict
+    ensures { result ≡ regular_verdict segment.modulus segment.step segment.start segment.count segment.window }
 {
-    if refuse(modulus, step, start, count, window) != 0 {
+    let Ok(()) = refuse(segment) else {
         return Verdict::Possible;
-    }
-    judge(regular_distance(modulus, step, start, count), window)
+    };
+    let sketch = end::<DistanceWalk>(segment.modulus, segment.step, segment.start, segment.count);
+    judge(sketch.distance, segment.window)
 }
 
-// The number of the first condition that does not hold: 1 and 2 as for the expansion of the modulus and the step, else 3 for a start that is not
-// below the modulus, else 4 for a count outside 1 to 1,048,576, else 5 for a window outside 1 to the modulus. 0 where all hold.
-pub fn refuse(modulus: u64, step: u64, start: u64, count: u64, window: u64) -> u32
-    ensures { result ≡ refusal (asked modulus step start count window) }
+// The first condition that does not hold: those of the expansion of the modulus and the step, then a
+// start below the modulus, a count from 1 to 1,048,576, a window from 1 to the modulus.
+pub fn refuse(segment: Segment) -> Result<(), Refusal>
+    ensures { result ≡ tested (refusal (asked segment.modulus segment.step segment.start segment.count segment.window)) }
 {
-    let number = expansion::refuse(modulus, step);
-    if number != 0 {
-        return number;
-    }
+    let Segment {
+        modulus,
+        step,
+        start,
+        count,
+        window,
+    } = segment;
+    expansion::refuse(modulus, step)?;
     if modulus <= start {
-        return 3;
+        return Err(Refusal::Start);
     }
-    if count < 1 {
-        return 4;
+    if count < 1 || LARGEST_COUNT < count {
+        return Err(Refusal::Count);
     }
-    if LARGEST_COUNT < count {
-        return 4;
+    if window < 1 || modulus < window {
+        return Err(Refusal::Window);
     }
-    if window < 1 {
-        return 5;
-    }
-    if modulus < window {
-        return 5;
-    }
-    0
+    Ok(())
 }
 
-// The state in which the regular search ends: an even and an odd row take turns, and the index tells the steps taken. The window plays no part;
-// the contract has the least that is accepted.
-fn regular_end(modulus: u64, step: u64, start: u64, count: u64) -> State
-    requires { Accepted (asked modulus step start count 1) }
-    ensures { result ≡ state_after regular (asked modulus step start count 1) 29 }
-{
-    let mut state = first(modulus, step, start, count);
-    if state.done {
-        return state;
-    }
-    while state.index < BUDGET {
-        state = regular_even(state, count);
-        if state.done {
-            return state;
-        }
-        state = regular_odd(state, count);
-        if state.done {
-            return state;
-        }
-    }
-    // No accepted segment comes here: all are done within the budget.
-    state
-}
-
-// The same for the fine search.
-fn fine_end(modulus: u64, step: u64, start: u64, count: u64) -> State
-    requires { Accepted (asked modulus step start count 1) }
-    ensures { result ≡ state_after fine (asked modulus step start count 1) 29 }
-{
-    let mut state = first(modulus, step, start, count);
-    if state.done {
-        return state;
-    }
-    while state.index < BUDGET {
-        state = fine_even(state, count);
-        if state.done {
-            return state;
-        }
-        state = fine_odd(state, count);
-        if state.done {
-            return state;
-        }
-    }
-    // No accepted segment comes here: all are done within the budget.
-    state
-}
-
-// The distance of the state in which the regular search ends, by the rows of `sketch`.
-fn regular_distance(modulus: u64, step: u64, start: u64, count: u64) -> u64
-    requires { Accepted (asked modulus step start count 1) }
-    ensures { result ≡ (state_after regular (asked modulus step start count 1) 29).distance }
-{
-    let mut sketch = sketch::first(modulus, step, start, count);
-    if sketch.done {
-        return sketch.distance;
-    }
-    while sketch.index < BUDGET {
-        sketch = sketch::even_row(sketch, count);
-        if sketch.done {
-            return sketch.distance;
-        }
-        sketch = sketch::odd_row(sketch, count);
-        if sketch.done {
-            return sketch.distance;
-        }
-    }
-    // No accepted segment comes here: all are done within the budget.
-    sketch.distance
-}
-
+#[tactic(auto, unfolding(crate::specs::Search::verdict_at))]
 fn judge(distance: u64, window: u64) -> Verdict
     ensures { result ≡ verdict_at distance window }
 {
     if window <= distance {
-        return Verdict::Clear;
+        Verdict::Clear
+    } else {
+        Verdict::Possible
     }
-    Verdict::Possible
 }

@@ -2,14 +2,14 @@
 -- Assumes nothing.
 use mathlib.Core.Path.{◌≡◌, sym, ap, ◌∙◌}
 use mathlib.Core.Bool.{Bool, true, false}
-use mathlib.Core.List.{List, [], ◌∷◌, ◌++◌, append_assoc, append-nil}
+use mathlib.Core.List.{List, [], ◌∷◌, ◌++◌, append_assoc}
 use mathlib.Core.Logic.{by_cases}
 use Prim.Native.Nat.{ℕ, zero, suc, ◌+◌, ◌-◌, ◌*◌, ◌/◌, ◌%◌, ◌^◌, ◌≤◌, ◌<◌}
 use native.Mathlib.Decide.{dec_lt}
 use native.Mathlib.Nat.{not-suc-le-zero, zero-lt-suc, pos_of_ne-zero, pow-suc, one-le-pow, div-lt_iff_lt-mul, le-div_iff_mul-le}
 use native.Mathlib.Omega.{arith}
 use lib.ListN.{length, set, take, drop, length-append, length-set, length-drop}
-use lib.Seq.{take_all, drop-length}
+use lib.Seq.{take_all}
 use borrow.Author.Tests.{lt-ltb, le-ltb}
 use Rattle.numbers.proofs.Lists.{drop_set}
 use Rattle.text.specs.Text.{digit, decimal_within, decimal}
@@ -75,11 +75,6 @@ pub record DigitsAfter (size n : ℕ) (places : List ℕ) (first left : ℕ) : T
   pub room : left < 10 ^ suc first
   pub within : first < size
   pub size_kept : length places ≡ size
-
--- nothing is written yet
-pub none_written : {last n : ℕ} {places : List ℕ} → length places ≡ suc last → n < 10 ^ suc last → DigitsAfter (suc last) n places last n
-none_written {n = n} {places = places} e h =
-    record { digits = rw (← e, drop-length places) (append-nil (decimal n)); room = h; within = omega arith; size_kept = e }
 
 module _ {size n : ℕ} {places : List ℕ} {first left : ℕ} (w : DigitsAfter size n places first left) where
   -- where two digits or more are left, there is a place before

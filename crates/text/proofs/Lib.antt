@@ -2,7 +2,6 @@ mod Decimals
 mod Writing
 mod Names
 mod Steps
-mod Signs
 mod Numbers
 mod Lines
 mod Digits

@@ -1,13 +1,17 @@
 -- A text that begins with a name is that name and the rest, and the other way round. Assumes nothing.
-use mathlib.Core.Path.{◌≡◌, refl, ap}
+use mathlib.Core.Path.{◌≡◌, refl}
 use mathlib.Core.Bool.{true, false≢true}
 use mathlib.Core.List.{List, [], ◌∷◌, ◌++◌}
-use mathlib.Core.Logic.{⊎_elim}
+use mathlib.Core.Logic.{⊎_elim, by_cases}
 use mathlib.Mathlib.Data.Bool.Basic.{dichotomy}
-use Prim.Native.Nat.{ℕ, ◌+◌, ◌≤◌, max}
+use Prim.Native.Nat.{ℕ, ◌+◌, ◌-◌, min}
+use native.Mathlib.Decide.{dec_le}
 use native.Mathlib.Omega.{arith}
 use lib.Dec.{eqb}
-use lib.ListN.{length, drop, length-append, length-drop}
+use lib.ListN.{length, take, drop}
+use lib.Seq.{drop-drop}
+use lib.Pointwise.{pointwise}
+use Rattle.std.proofs.lemmas.Grind.{common_steps}
 use borrow.Author.Tests.{eq-eqb, eqb-true}
 use Rattle.text.specs.Reading.{starts}
 
@@ -23,8 +27,23 @@ begins (x ∷ xs) [] h = absurd (false≢true h)
 begins (x ∷ xs) (y ∷ ys) h =
     ⊎_elim (λ e. absurd (false≢true (rw e at h))) (λ e. cc (eqb-true y x e, begins xs ys (rw e at h))) (dichotomy (eqb y x))
 
--- a name that stands at a place has no byte, or ends within the text
-pub name_ends : (name t : List ℕ) (at : ℕ) → starts name (drop at t) ≡ true → at + length name ≤ max at (length t)
-name_ends name t at e =
-    let r = drop (length name) (drop at t) in
-    omega (arith, ap length (begins name (drop at t) e), length-append name r, length-drop at t)
+-- so the library's test of a front tells whether a text begins with a name
+pub starts_is : (name t : List ℕ) → pointwise eqb (take (length name) t) name ≡ starts name t
+unfolding starts
+starts_is [] t = refl
+starts_is (x ∷ xs) [] = refl
+starts_is (x ∷ xs) (y ∷ ys) = rw (starts_is xs ys) (⊎_elim (λ e. rw e) (λ e. rw e) (dichotomy (eqb y x)))
+
+-- what is left of a text from a place on, which may be beyond its end
+pub from_place : (t : List ℕ) (at m : ℕ) → m ≡ min at (length t) → take (length t - m) (drop m t) ≡ drop at t
+from_place t at m h = by_cases (dec_le at (length t)) (λ l. grind (arith, common_steps)) (λ l. grind (arith, common_steps))
+
+-- the same of a minus sign, and what is left after one
+module _ (t : List ℕ) where
+  pub minus_is : pointwise eqb (take 1 t) (45 ∷ []) ≡ starts (45 ∷ []) t
+  minus_is = starts_is (45 ∷ []) t
+
+  pub after_minus : (k : ℕ) → drop (k + 1) t ≡ drop 1 (drop k t)
+  after_minus k = rw drop-drop
+
+pub ruleset minus_sign = (minus_is, after_minus)

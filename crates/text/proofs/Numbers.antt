@@ -12,10 +12,11 @@ use lib.Dec.{eqb}
 use lib.ListN.{length, get_or, drop, length-append, length-drop}
 use lib.Seq.{drop-cons, drop-drop}
 use borrow.Author.Tests.{lt-ltb, le-leb, ne_eqb, eqb-true}
+use Rattle.std.proofs.Common.{Some}
+use Rattle.std.proofs.lemmas.Option.{none-some, some_pair_parts}
 use Rattle.numbers.proofs.Lists.{after_piece}
 use Rattle.text.specs.Text.{digit, decimal}
 use Rattle.text.specs.Reading.{is_digit, takes_digit, digits_from, number_from}
-use Rattle.text.specs.declared.Found.TheVariants.{Number, Malformed}
 use Rattle.text.proofs.Decimals.{one_digit, more_digits, by_tenths, byte_alone, byte_after}
 use Rattle.text.proofs.Steps.{digit_within, taken, number_over, no_first, first_digit}
 
@@ -28,9 +29,6 @@ record Stands (n at : ℕ) (t : List ℕ) (m end : ℕ) : Type 0 where
   place : end + length (decimal n) ≡ suc (at + length (decimal m))
   fits : m < 2 ^ 64
 
-pub no_number : {n end : ℕ} → Malformed ≡ Number n end → ⊥
-no_number e = let z : ◌≡◌ {A = ℕ} 0 1 = cc in omega arith
-
 -- one digit more
 stands_next : (n at x : ℕ) (xs : List ℕ) {m end : ℕ} → 0 < n → 48 ≤ x → x ≤ 57 → Stands (n * 10 + (x - 48)) (suc at) xs m end → Stands n at (x ∷ xs) m end
 stands_next n at x xs p low high g =
@@ -42,19 +40,18 @@ stands_next n at x xs p low high g =
       fits = g.fits;
     }
 
-stands_from : (n at : ℕ) (t : List ℕ) {m end : ℕ} → n < 2 ^ 64 → digits_from n at t ≡ Number m end → Stands n at t m end
+stands_from : (n at : ℕ) (t : List ℕ) {m end : ℕ} → n < 2 ^ 64 → digits_from n at t ≡ Some (m, end) → Stands n at t m end
 unfolding digits_from
-stands_from n at [] h e = absurd (no_number e)
+stands_from n at [] h e = absurd (none-some _ e)
 stands_from n at (x ∷ xs) {m} {end} h e =
     ⊎_elim
     (λ b. let f = rw b at e in
-    ⊎_elim (λ d. absurd (no_number (rw d at f)))
+    ⊎_elim (λ d. absurd (none-some _ (rw d at f)))
     (λ d. let k = taken n x d in stands_next n at x xs k.2 k.0 k.1 (stands_from (n * 10 + (x - 48)) (suc at) xs k.3 (rw d at f)))
     (dichotomy (takes_digit n x)))
     (λ b. let f = rw b at e in
-    let same : n ≡ m = cc in
-    let ends : suc at ≡ end = cc in
-    record { rest = xs; text = rw (same, eqb-true x 10 b); place = omega (arith, ap (λ (k : ℕ). length (decimal k)) same); fits = omega arith })
+    let p = some_pair_parts n m (suc at) end f in
+    record { rest = xs; text = rw (p.0, eqb-true x 10 b); place = omega (arith, ap (λ (k : ℕ). length (decimal k)) p.0); fits = omega arith })
     (dichotomy (eqb x 10))
 
 -- what is written stands at a place of a text, and a line feed, which ends it just before another place
@@ -72,17 +69,17 @@ written_at written t rest at {end} e f =
     let after : drop end t ≡ rest = rw (k, ← drop-drop 1 (at + length written) t, after_piece t at written (10 ∷ rest) e) in
     record { text = rw after e; within = omega (arith, simp (length-append, length-drop) at (ap length e)) }
 
-number_read : (t : List ℕ) (at : ℕ) {m end : ℕ} → number_from at (drop at t) ≡ Number m end → (m < 2 ^ 64) × WrittenAt (decimal m) t at end
+number_read : (t : List ℕ) (at : ℕ) {m end : ℕ} → number_from at (drop at t) ≡ Some (m, end) → (m < 2 ^ 64) × WrittenAt (decimal m) t at end
 number_read t at {m} e =
     by_cases (dec_lt at (length t))
-    (λ l. ⊎_elim (λ d. absurd (no_number (sym (no_first at t l d) ∙ e)))
+    (λ l. ⊎_elim (λ d. absurd (none-some _ (sym (no_first at t l d) ∙ e)))
     (λ d. let w = digit_within (get_or t at 0) d in
     let one = byte_alone (get_or t at 0) w.0 w.1 in
     let s = stands_from (get_or t at 0 - 48) (at + 1) (drop (at + 1) t) (omega (arith, w)) (sym (first_digit at t l d) ∙ e) in
     let here : drop at t ≡ get_or t at 0 ∷ drop (at + 1) t = rw (add-one, drop-cons t at 0) in
     (s.fits, written_at (decimal m) t s.rest at (here ∙ (rw one at s.text)) (omega (arith, s.place, ap length one))))
     (dichotomy (is_digit (get_or t at 0))))
-    (λ l. absurd (no_number (sym (number_over at t (omega arith)) ∙ e)))
+    (λ l. absurd (none-some _ (sym (number_over at t (omega arith)) ∙ e)))
 
 -- ---- where it stands, it is read
 
@@ -114,11 +111,11 @@ continues_more m h next at rest l =
     rw (more_digits m h, append_assoc (decimal q) (digit d ∷ []) rest, length-append)
     (next at (digit d ∷ rest) (omega arith) ∙ digit_read q d (at + length (decimal q)) rest (omega arith) (omega arith) (omega arith) ∙ rw (e, n))
 
-pub number_reads : (at m : ℕ) (rest : List ℕ) → m < 2 ^ 64 → number_from at (decimal m ++ 10 ∷ rest) ≡ Number m (suc (at + length (decimal m)))
+pub number_reads : (at m : ℕ) (rest : List ℕ) → m < 2 ^ 64 → number_from at (decimal m ++ 10 ∷ rest) ≡ Some (m, suc (at + length (decimal m)))
 unfolding digits_from
 number_reads at m rest h = by_tenths Continues continues_small continues_more m at (10 ∷ rest) h
 
 -- ---- both
 
-pub number_iff : (t : List ℕ) (at n end : ℕ) → (number_from at (drop at t) ≡ Number n end) ↔ ((n < 2 ^ 64) × WrittenAt (decimal n) t at end)
-number_iff t at n end = (number_read t at, λ h. rw h.1.text (number_reads at n (drop end t) h.0 ∙ ap (Number n) (sym (ends_at h.1))))
+pub number_iff : (t : List ℕ) (at n end : ℕ) → (number_from at (drop at t) ≡ Some (n, end)) ↔ ((n < 2 ^ 64) × WrittenAt (decimal n) t at end)
+number_iff t at n end = (number_read t at, λ h. rw h.1.text (number_reads at n (drop end t) h.0 ∙ ap (λ (k : ℕ). Some (n, k)) (sym (ends_at h.1))))

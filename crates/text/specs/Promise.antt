@@ -1,12 +1,10 @@
 -- What is promised of decimal numbers and of fields. `Promised`, at the end, is all of it; proofs/Promises.antt proves it. Assumes nothing: these are
 -- statements.
-use Rattle.std.specs.Prelude.{◌≡◌, List, [], ◌∷◌, ◌++◌, ◌↔◌, ℕ, suc, ◌+◌, ◌-◌, ◌*◌, ◌^◌, ◌≤◌, ◌<◌, ℤ, pos, negsuc, nat_abs, length, get_or, drop}
+use Rattle.std.specs.Prelude.{◌≡◌, Some, None, List, [], ◌∷◌, ◌++◌, ◌↔◌, ℕ, suc, ◌+◌, ◌-◌, ◌*◌, ◌^◌, ◌≤◌, ◌<◌, ℤ, pos, negsuc, nat_abs, length, get_or, drop}
 use Prim.Native.Char.{Char, code}
 use Prim.Native.String.{String, ◌∷◌ as ◌then◌}
 use Rattle.text.specs.Text.{bytes, line_feed, decimal, signed_decimal, line}
 use Rattle.text.specs.Reading.{number_from, field_at, signed_field_at}
-use Rattle.text.specs.declared.Found.TheVariants as found
-use Rattle.text.specs.declared.FoundSigned.TheVariants as found_signed
 
 -- ---- decimal numbers
 
@@ -37,7 +35,7 @@ pub record DecimalCorrect (n : ℕ) : Type 0 where
   pub many : (k : ℕ) → 10 ^ k ≤ n → suc k ≤ length (decimal n)
   -- the reader takes them back to n, with the line feed after them
   pub read_back : (at : ℕ) (rest : List ℕ) → n < 2 ^ 64
-      → number_from at (decimal n ++ line_feed ∷ rest) ≡ found.Number n (suc (at + length (decimal n)))
+      → number_from at (decimal n ++ line_feed ∷ rest) ≡ Some (n, suc (at + length (decimal n)))
 
 -- ---- fields
 
@@ -48,10 +46,10 @@ pub record LineAt (name written t : List ℕ) (at end : ℕ) : Type 0 where
 
 -- a field is read exactly where its line stands and its number is in range, and is malformed exactly where it is not read
 pub record FieldCorrect (name t : List ℕ) (at : ℕ) : Type 0 where
-  pub read : (n end : ℕ) → (field_at name at t ≡ found.Number n end) ↔ ((n < 2 ^ 64) × LineAt name (decimal n) t at end)
-  pub malformed : (field_at name at t ≡ found.Malformed) ↔ ((n end : ℕ) → (n < 2 ^ 64) × LineAt name (decimal n) t at end → ⊥)
-  pub signed_read : (s : ℤ) (end : ℕ) → (signed_field_at name at t ≡ found_signed.Number s end) ↔ ((nat_abs s < 2 ^ 63) × LineAt name (signed_decimal s) t at end)
-  pub signed_malformed : (signed_field_at name at t ≡ found_signed.Malformed)
+  pub read : (n end : ℕ) → (field_at name at t ≡ Some (n, end)) ↔ ((n < 2 ^ 64) × LineAt name (decimal n) t at end)
+  pub malformed : (field_at name at t ≡ None) ↔ ((n end : ℕ) → (n < 2 ^ 64) × LineAt name (decimal n) t at end → ⊥)
+  pub signed_read : (s : ℤ) (end : ℕ) → (signed_field_at name at t ≡ Some (s, end)) ↔ ((nat_abs s < 2 ^ 63) × LineAt name (signed_decimal s) t at end)
+  pub signed_malformed : (signed_field_at name at t ≡ None)
       ↔ ((s : ℤ) (end : ℕ) → (nat_abs s < 2 ^ 63) × LineAt name (signed_decimal s) t at end → ⊥)
 
 -- ---- texts, written out

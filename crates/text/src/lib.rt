@@ -1,103 +1,37 @@
-// Texts in bytes: fields with decimal numbers, read strictly from a place of a text on; and bytes, decimal numbers and lines, written into a
-// buffer from a place on. A field is a name, a number and a line feed.
+// Texts in bytes: fields with decimal numbers, read strictly from a place of a text on; and bytes,
+// decimal numbers and lines, written into a buffer one after another. A field is a name, a number
+// and a line feed.
 #![tactic(auto)]
 
-ghost use Rattle.std.specs.Prelude.{◌≡◌, [], ◌∷◌};
-ghost use Rattle.std.proofs.lemmas.List.Edits.{sets};
-ghost use Rattle.numbers.specs.Lists.{place_after};
-ghost use Rattle.text.specs.Text.{decimal, line};
+ghost use Rattle.std.specs.Prelude.{◌≡◌};
 ghost use Rattle.text.specs.Reading.{field_at, signed_field_at};
 
 mod reading;
+mod writer;
 
-use numbers::{min, saturating_sub};
-use reading::{number, signed, starts_with};
-
-// A number and the place after its line feed.
-#[derive(Drop)]
-pub enum Found {
-    Number(u64, usize),
-    Malformed,
-}
-
-// A signed number and the place after its line feed.
-#[derive(Drop)]
-pub enum FoundSigned {
-    Number(i64, usize),
-    Malformed,
-}
+use reading::{after_name, number, opposite, unsigned};
+pub use writer::Writer;
 
 // A name, a number below 2^64 and a line feed: no sign, no space, no leading zero but in 0 itself.
-pub fn field(text: &[u8], at: usize, name: &[u8]) -> Found
+// Tells the number and the place after the line feed.
+#[tactic(auto, unfolding(crate::specs::Reading::field_at))]
+pub fn field(text: &[u8], at: usize, name: &[u8]) -> Option<(u64, usize)>
     ensures { result ≡ field_at name.now at text.now }
 {
-    if starts_with(text, at, name) {
-        return number(text, at + name.len());
-    }
-    Found::Malformed
+    let rest = after_name(text, at, name)?;
+    number(rest, at + name.len())
 }
 
-// The same with a signed number whose size is below 2^63: a minus sign before one that is not 0, and no other sign.
-pub fn signed_field(text: &[u8], at: usize, name: &[u8]) -> FoundSigned
+// The same with a signed number whose size is below 2^63: a minus sign before one that is not 0,
+// and no other sign.
+#[tactic(auto, using(crate::proofs::Names::minus_sign), unfolding(crate::specs::Reading::signed_field_at))]
+pub fn signed_field(text: &[u8], at: usize, name: &[u8]) -> Option<(i64, usize)>
     ensures { result ≡ signed_field_at name.now at text.now }
 {
-    if starts_with(text, at, name) {
-        return signed(text, at + name.len());
+    let rest = after_name(text, at, name)?;
+    let start = at + name.len();
+    match rest.strip_prefix(b"-") {
+        Some(size) => opposite(number(size, start + 1)?),
+        None => unsigned(number(rest, start)?),
     }
-    FoundSigned::Malformed
-}
-
-// Writes bytes from a place on, as far as there are places, and tells the place after them.
-pub fn put(bytes: &[u8], out: &mut [u8], at: usize) -> usize
-    ensures place { result ≡ place_after at bytes.now out.old }
-    ensures written { out.new ≡ sets out.old at bytes.now }
-{
-    let room = saturating_sub(out.len() as u64, at as u64);
-    let n = min(bytes.len() as u64, room) as usize;
-    let mut i = 0;
-    while i < n {
-        out[at + i] = bytes[i];
-        i = i + 1;
-    }
-    at + n
-}
-
-// The same for one byte.
-pub fn put_byte(x: u8, out: &mut [u8], at: usize) -> usize
-    ensures place { result ≡ place_after at (x ∷ []) out.old }
-    ensures written { out.new ≡ sets out.old at (x ∷ []) }
-{
-    if out.len() <= at {
-        return at;
-    }
-    out[at] = x;
-    at + 1
-}
-
-// The same for a number in decimal. Division by ten gives the last digit first, so the digits fill an array of twenty bytes from its end; every
-// number below 2^64 fits.
-pub fn put_number(n: u64, out: &mut [u8], at: usize) -> usize
-    ensures place { result ≡ place_after at (decimal n) out.old }
-    ensures written { out.new ≡ sets out.old at (decimal n) }
-{
-    let mut digits = [0u8; 20];
-    let mut first = 19;
-    let mut left = n;
-    while 10 <= left {
-        digits[first] = (48 + left % 10) as u8;
-        left = left / 10;
-        first = first - 1;
-    }
-    digits[first] = (48 + left) as u8;
-    put(&digits[first..], out, at)
-}
-
-// The same for a name, a number and a line feed.
-pub fn put_line(name: &[u8], n: u64, out: &mut [u8], at: usize) -> usize
-    ensures place { result ≡ place_after at (line name.now (decimal n) []) out.old }
-    ensures written { out.new ≡ sets out.old at (line name.now (decimal n) []) }
-{
-    let after_name = put(name, out, at);
-    let after_number = put_number(n, out, after_name);
-    put_byte(10, out, after_number)
 }

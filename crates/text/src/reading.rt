@@ -1,128 +1,76 @@
-// Names and numbers, from a place of a text on.
-ghost use Rattle.std.specs.Prelude.{◌≡◌, drop};
-ghost use Rattle.text.specs.Reading.{starts, is_digit, takes_digit, digits_from, number_from, unsigned, opposite, signed_from};
+// Names and numbers, at the front of what is left of a text.
+ghost use Rattle.std.specs.Prelude.{◌≡◌, ◌+◌, ◌-◌, ◌*◌, ◌^◌, ◌≤◌, ◌<◌, max, true, false};
+ghost use Rattle.std.specs.Prelude.{length, drop, MatchOption, if◌then◌else◌};
+ghost use Rattle.text.specs.Reading.{starts, takes_digit, digits_from, number_from};
+ghost use Rattle.text.specs.Reading.{unsigned, opposite};
 
-use crate::{Found, FoundSigned};
-
-const LINE_FEED: u8 = 10;
-
-// The digits 0 and 9.
-const FIRST_DIGIT: u8 = 48;
-
-const LAST_DIGIT: u8 = 57;
-
-// 2^64 - 1
-const LARGEST: u64 = 18446744073709551615;
-
-// 2^63 - 1
-const LARGEST_SIZE: u64 = 9223372036854775807;
-
-// Whether a name stands in a text from a place on.
-pub(crate) fn starts_with(text: &[u8], at: usize, name: &[u8]) -> bool
-    ensures { result ≡ starts name.now (drop at text.now) }
+// What is left of a text after a name that stands at a place of it.
+pub(crate) fn after_name<'a>(text: &'a [u8], at: usize, name: &[u8]) -> Option<&'a [u8]>
+    ensures { MatchOption result
+        (starts name.now (drop at text.now) ≡ false)
+        (λ rest. (starts name.now (drop at text.now) ≡ true)
+        × (rest.now ≡ drop (at + length name.now) text.now)
+        × (at + length name.now ≤ max at (length text.now))) }
 {
-    let mut i = 0;
-    let mut k = at;
-    while i < name.len() {
-        if text.len() <= k {
-            return false;
-        }
-        if text[k] != name[i] {
-            return false;
-        }
-        i = i + 1;
-        k = k + 1;
-    }
-    true
+    text[at.min(text.len())..].strip_prefix(name)
 }
 
-// A number and its line feed.
-pub(crate) fn number(text: &[u8], at: usize) -> Found
-    ensures { result ≡ number_from at (drop at text.now) }
+// A number and its line feed, at a place of a text. Tells the number and the place after the line
+// feed.
+#[tactic(auto, unfolding(crate::specs::Reading::number_from))]
+pub(crate) fn number(rest: &[u8], at: usize) -> Option<(u64, usize)>
+    requires { at + length rest.now < 2 ^ 64 }
+    ensures { result ≡ number_from at rest.now }
 {
-    if text.len() <= at {
-        return Found::Malformed;
+    let (first, more) = rest.split_first()?;
+    if !first.is_ascii_digit() {
+        return None;
     }
-    let x = text[at];
-    if is_digit(x) {
-        return digits(text, at + 1, (x - FIRST_DIGIT) as u64);
-    }
-    Found::Malformed
+    digits(more, at + 1, u64::from(*first - b'0'))
 }
 
 // The digits after a number's first one, and its line feed.
-fn digits(text: &[u8], at: usize, first: u64) -> Found
-    ensures { result ≡ digits_from first at (drop at text.now) }
+#[tactic(auto, using(crate::proofs::Steps::digits_step), unfolding(crate::specs::Reading::digits_from))]
+fn digits(rest: &[u8], at: usize, first: u64) -> Option<(u64, usize)>
+    requires { at + length rest.now < 2 ^ 64 }
+    ensures { result ≡ digits_from first at rest.now }
 {
     let mut n = first;
-    let mut i = at;
-    while i < text.len() {
-        let x = text[i];
-        if x == LINE_FEED {
-            return Found::Number(n, i + 1);
+    for (i, x) in rest.iter().enumerate() {
+        if *x == b'\n' {
+            return Some((n, at + i + 1));
         }
-        if !takes_digit(n, x) {
-            return Found::Malformed;
-        }
-        n = n * 10 + (x - FIRST_DIGIT) as u64;
-        i = i + 1;
+        n = with_digit(n, *x)?;
     }
-    Found::Malformed
+    None
 }
 
-// Whether a byte is another digit of a number: not after a zero in front, and not beyond 2^64 - 1.
-fn takes_digit(n: u64, x: u8) -> bool
-    ensures { result ≡ takes_digit n x }
+// A number with one more digit: not after a zero in front, and not beyond 2^64 - 1.
+#[tactic(auto, unfolding(crate::specs::Reading::takes_digit))]
+fn with_digit(n: u64, x: u8) -> Option<u64>
+    ensures { result ≡ (if takes_digit n x then Some (n * 10 + (x - 48)) else None) }
 {
-    if is_digit(x) {
-        return (0 < n) & (n <= (LARGEST - (x - FIRST_DIGIT) as u64) / 10);
+    if n == 0 || !x.is_ascii_digit() {
+        return None;
     }
-    false
+    n.checked_mul(10)?.checked_add(u64::from(x - b'0'))
 }
 
-fn is_digit(x: u8) -> bool
-    ensures { result ≡ is_digit x }
+// A number without a sign: a size below 2^63.
+pub(crate) fn unsigned(size: (u64, usize)) -> Option<(i64, usize)>
+    ensures { result ≡ unsigned (Some size) }
 {
-    (FIRST_DIGIT <= x) & (x <= LAST_DIGIT)
+    let (n, end) = size;
+    Some((i64::try_from(n).ok()?, end))
 }
 
-// A number with or without a minus sign, and its line feed.
-pub(crate) fn signed(text: &[u8], at: usize) -> FoundSigned
-    ensures { result ≡ signed_from at text.now }
+// A number after a minus sign: a size below 2^63 that is not 0.
+pub(crate) fn opposite(size: (u64, usize)) -> Option<(i64, usize)>
+    ensures { result ≡ opposite (Some size) }
 {
-    if starts_with(text, at, b"-") {
-        return opposite(number(text, at + 1));
+    let (n, end) = size;
+    if n == 0 {
+        return None;
     }
-    unsigned(number(text, at))
-}
-
-fn unsigned(size: Found) -> FoundSigned
-    ensures { result ≡ unsigned size }
-{
-    match size {
-        Found::Number(n, end) => {
-            if LARGEST_SIZE < n {
-                return FoundSigned::Malformed;
-            }
-            FoundSigned::Number(n as i64, end)
-        }
-        Found::Malformed => FoundSigned::Malformed,
-    }
-}
-
-fn opposite(size: Found) -> FoundSigned
-    ensures { result ≡ opposite size }
-{
-    match size {
-        Found::Number(n, end) => {
-            if n == 0 {
-                return FoundSigned::Malformed;
-            }
-            if LARGEST_SIZE < n {
-                return FoundSigned::Malformed;
-            }
-            FoundSigned::Number(0 - n as i64, end)
-        }
-        Found::Malformed => FoundSigned::Malformed,
-    }
+    Some((-i64::try_from(n).ok()?, end))
 }

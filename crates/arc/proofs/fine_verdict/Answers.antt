@@ -1,21 +1,9 @@
--- `arc::fine_verdict` meets its contract: the search never refuses an arc within the bounds.
--- Assumes nothing.
-use Rattle.std.proofs.Common.{sym, ◌∙◌, ap, not}
-use Rattle.arc.proofs.Refusals.{test_passed, test_failed}
-use Rattle.arc.proofs.Coverings.{fine_unrefused, fine_verdict, never_cleared, verdict_within}
+-- `arc::fine_verdict` meets its contract. Assumes nothing.
+use Rattle.arc.proofs.Coverings.{never_cleared, verdict_is}
 use Rattle.arc.proofs.fine_verdict.Goals as goal
 
-pub returns-then-not-is_within : goal.returns-then-not-is_within
-returns-then-not-is_within c = never_cleared _ _ (test_failed _ c.is_within.ensures (ap not c.if-not-is_within.true))
+pub returns-in-Some : goal.returns-in-Some
+returns-in-Some c = verdict_is _ c.in-Some.within c.in-Some.ensures c.fine_verdict.ensures
 
-pub cover-covering-requires : goal.cover-covering-requires
-cover-covering-requires c = test_passed _ c.is_within.ensures (ap not c.if-not-is_within.false)
-
-pub returns-in-Refused : goal.returns-in-Refused
-returns-in-Refused c =
-    absurd (fine_unrefused (test_passed _ c.is_within.ensures (ap not c.if-not-is_within.false)) c.cover-covering.ensures c.fine_search.ensures c.in-Refused.is)
-
-pub returns-in-Shown : goal.returns-in-Shown
-returns-in-Shown c =
-    let range = test_passed _ c.is_within.ensures (ap not c.if-not-is_within.false) in
-    fine_verdict range c.cover-covering.ensures c.fine_search.ensures c.in-Shown.is ∙ sym (verdict_within _ _ range)
+pub returns-in-None : goal.returns-in-None
+returns-in-None c = never_cleared _ _ c.in-None.ensures

@@ -1,17 +1,9 @@
--- `arc::regular_verdict` meets its contract: the search never refuses an arc within the bounds.
--- Assumes nothing.
-use Rattle.std.proofs.Common.{sym, ◌∙◌, ap, not}
-use Rattle.arc.proofs.Refusals.{test_passed, test_failed}
-use Rattle.arc.proofs.Coverings.{regular_verdict, never_cleared, verdict_within}
+-- `arc::regular_verdict` meets its contract. Assumes nothing.
+use Rattle.arc.proofs.Coverings.{never_cleared, verdict_is}
 use Rattle.arc.proofs.regular_verdict.Goals as goal
 
-pub returns-then-not-is_within : goal.returns-then-not-is_within
-returns-then-not-is_within c = never_cleared _ _ (test_failed _ c.is_within.ensures (ap not c.if-not-is_within.true))
+pub returns-in-Some : goal.returns-in-Some
+returns-in-Some c = verdict_is _ c.in-Some.within c.in-Some.ensures c.regular_verdict.ensures
 
-pub cover-covering-requires : goal.cover-covering-requires
-cover-covering-requires c = test_passed _ c.is_within.ensures (ap not c.if-not-is_within.false)
-
-pub returns : goal.returns
-returns c =
-    let range = test_passed _ c.is_within.ensures (ap not c.if-not-is_within.false) in
-    c.regular_verdict.ensures ∙ regular_verdict range c.cover-covering.ensures ∙ sym (verdict_within _ _ range)
+pub returns-in-None : goal.returns-in-None
+returns-in-None c = never_cleared _ _ c.in-None.ensures

@@ -25,21 +25,17 @@ slice_bounds-put_report-end-in-Searched-2 c =
     let found = output_reported c.args.job (sym c.search.ensures.value ∙ c.in-Searched.is) in
     sym (length-take-le _ _ (rw c.search.ensures.values_after found.values_within))
 
-pub put_report-requires-clause-small_marks : goal.put_report-requires-clause-small_marks
-put_report-requires-clause-small_marks c =
+pub put_report-requires : goal.put_report-requires
+put_report-requires c =
     let found = output_reported c.args.job (sym c.search.ensures.value ∙ c.in-Searched.is) in
     rw c.search.ensures.marks_after found.small
 
 pub returns-in-Refused : goal.returns-in-Refused
 returns-in-Refused c =
-    let p = c.put_refusal.ensures in
-    rw (output_refused c.args.job (sym c.search.ensures.value ∙ c.in-Refused.is))
-    (record { place = p.place; written = p.written })
+    rw (output_refused c.args.job (sym c.search.ensures.value ∙ c.in-Refused.is)) c.put_refusal.ensures
 
 pub returns-in-Searched : goal.returns-in-Searched
 returns-in-Searched c =
     let s = c.search.ensures in
     let found = output_reported c.args.job (sym s.value ∙ c.in-Searched.is) in
-    let p = c.put_report.ensures in
-    rw (output_from found s.marks_after s.list_after s.values_after)
-    (record { place = p.place; written = p.written })
+    rw (output_from found s.marks_after s.list_after s.values_after) c.put_report.ensures

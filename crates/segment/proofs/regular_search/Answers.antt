@@ -1,21 +1,25 @@
 -- `segment::regular_search` meets its contract: a refusal, or what the state shows in which the
 -- search ends. Assumes nothing.
 use Rattle.std.proofs.Common.{sym, ◌∙◌, arith, rules}
+use Rattle.numbers.specs.Refusals.{outcome}
 use Rattle.expansion.specs.Reached.Search.{regular}
-use Rattle.segment.proofs.Answers.{accepted, points_few, regular_refused, regular_answered}
+use Rattle.segment.specs.Answer.{regular_answer}
+use Rattle.segment.proofs.Answers.{unrefused, points_few, regular_answered}
+use Rattle.segment.proofs.Stepping.{goes_on}
 use Rattle.segment.proofs.regular_search.Goals as goal
 
-pub returns-then-number-ne0 : goal.returns-then-number-ne0
-returns-then-number-ne0 c = regular_refused _ _ _ _ _ _ c.refuse-number.ensures c.if-number-ne0.true
+pub returns-in_err-refuse : goal.returns-in_err-refuse
+unfolding outcome regular_answer
+returns-in_err-refuse c = search rules
 
-pub regular_end-end-requires : goal.regular_end-end-requires
-regular_end-end-requires c = let a = (accepted _).0 (sym c.refuse-number.ensures ∙ c.if-number-ne0.false) in omega arith
+pub end-end-requires : goal.end-end-requires
+end-end-requires c = let a = unrefused _ (sym c.refuse.ensures ∙ c.in_ok-refuse.was) in goes_on regular (omega arith)
 
 pub overflow_add-result : goal.overflow_add-result
 overflow_add-result c =
-    let few = points_few regular _ _ _ _ _ ((accepted _).0 (sym c.refuse-number.ensures ∙ c.if-number-ne0.false)) c.regular_end-end.ensures in
+    let few = points_few regular _ _ _ _ _ (unrefused _ (sym c.refuse.ensures ∙ c.in_ok-refuse.was)) c.end-end.ensures in
     search rules
 
 pub returns : goal.returns
 returns c =
-    rw c.judge.ensures (regular_answered _ _ _ _ _ ((accepted _).0 (sym c.refuse-number.ensures ∙ c.if-number-ne0.false)) c.regular_end-end.ensures)
+    rw c.judge.ensures (regular_answered _ _ _ _ _ (unrefused _ (sym c.refuse.ensures ∙ c.in_ok-refuse.was)) c.end-end.ensures)

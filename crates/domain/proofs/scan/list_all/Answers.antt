@@ -13,7 +13,7 @@ pub loop-x-preserved : goal.loop-x-preserved
 loop-x-preserved c = full_next c.loop-x.invariant c.loop-x-test.true (omega arith)
 
 pub loop-x-2-init : goal.loop-x-2-init
-loop-x-2-init c = record { values_column = full_first c.requires.all_hard; point = at_first c.requires.in_range c.remainder-second.ensures refl }
+loop-x-2-init c = record { values_column = full_first c.requires.all_hard; point = at_first c.args.within.in_range c.remainder-second.ensures refl }
 
 pub bounds-values-x : goal.bounds-values-x
 bounds-values-x c = omega (arith, c.loop-x-2-test.true, c.loop-x-2.invariant.values_column.column.writing.length_kept, c.requires.values_room)

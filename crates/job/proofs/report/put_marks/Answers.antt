@@ -1,8 +1,9 @@
 -- `job::report::put_marks` meets its contract. Assumes nothing.
-use Rattle.job.proofs.Reports.{clip_mark}
+use Rattle.text.proofs.Laws.{wrote_more}
+use Rattle.job.proofs.Reports.{marks_more}
 use Rattle.job.proofs.report.put_marks.Goals as goal
 
-pub loop-i-preserved : goal.loop-i-preserved
-loop-i-preserved c =
-    let p = c.put_byte-end.ensures in
-    clip_mark _ _ c.loop-i-test.true c.loop-i.invariant (p.place, p.written)
+pub loop-mark-preserved : goal.loop-mark-preserved
+loop-mark-preserved c =
+    rw (marks_more c.args.marks.now c.loop-mark.mark-index c.loop-mark-test.true)
+    (wrote_more _ _ c.loop-mark.invariant c.put_byte.ensures)

@@ -1,8 +1,0 @@
--- `arc::covering::cover` meets its contract. Assumes nothing.
-use Rattle.parabola.specs.Parabola.{covering_step}
-use Rattle.arc.specs.Arc.{covering_numbers}
-use Rattle.arc.proofs.covering.cover.Goals as goal
-
-pub returns : goal.returns
-unfolding covering_numbers covering_step
-returns c = rw (c.covering_window.ensures, c.covering_start.ensures, c.reduce.ensures)

@@ -1,0 +1,44 @@
+-- `arc::within::Within::value_at` meets its contract. Assumes nothing.
+use Rattle.std.proofs.Common.{arith}
+use native.Mathlib.Nat.{mod-lt, mul-le-mul}
+use Rattle.numbers.proofs.Integers.{mod_below}
+use Rattle.parabola.proofs.Laws.{positive, square_most, triangle_square, triangle_most}
+use Rattle.arc.proofs.Arcs.{arc_fits, arc_read, value_of_terms}
+use Rattle.arc.proofs.within.Within.value_at.Goals as goal
+
+pub overflow_mul-triangle : goal.overflow_mul-triangle
+overflow_mul-triangle c = let x = c.args.x in record { fits = omega (arith, mul-le-mul {n₁ = x} {m₁ = x} c.requires c.requires) }
+
+pub overflow_sub-triangle : goal.overflow_sub-triangle
+overflow_sub-triangle c = square_most c.args.x
+
+pub times-requires : goal.times-requires
+times-requires c = (c.args.self.in_range.slope_below, c.args.self.in_range.unit_within.1)
+
+pub add-along-requires : goal.add-along-requires
+add-along-requires c =
+    let r = c.args.self.in_range in
+    (r.value_below, rw c.times.ensures (mod-lt _ (positive r)), r.unit_within.1)
+
+pub overflow_cast-triangle : goal.overflow_cast-triangle
+overflow_cast-triangle c = rw (triangle_square c.args.x) (record { sfits = omega (arith, triangle_most c.args.x c.requires) })
+
+pub overflow_mul-arc : goal.overflow_mul-arc
+overflow_mul-arc c = rw (triangle_square c.args.x) (arc_fits c.args.self.in_range _ c.requires)
+
+pub add-requires : goal.add-requires
+add-requires c =
+    let p = positive c.args.self.in_range in
+    (rw c.add-along.ensures (mod-lt _ p), rw c.remainder-bent.ensures (mod_below p _), c.args.self.in_range.unit_within.1)
+
+pub returns : goal.returns
+returns c =
+    rw (
+      c.add.ensures,
+      c.remainder-bent.ensures,
+      c.add-along.ensures,
+      c.times.ensures,
+      triangle_square c.args.x,
+      arc_read c.args.self.in_range c.args.x c.requires,
+    )
+    (value_of_terms c.args.self.in_range _)
