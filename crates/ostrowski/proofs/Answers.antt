@@ -107,6 +107,7 @@ divide_answer_correct M a t =
       refused_if_none = λ low most small.
           let e = (target_correct M a small t).exists in (
             λ r s. let f = shown ((low, most), (small, (e.0 s, tt))) in cc,
-            λ n. (outcome_refuses cs y Target all).1 (inr ((low, most), inr (small, inl (refl, λ h. n (e.1 h))))),
+            λ n. (outcome_refuses cs y Target all).1
+                (inr ((low, most), inr (small, inl (refl, λ h. n (e.1 h))))),
           );
     }

@@ -14,7 +14,9 @@ pub outcome_shows : {A : Type 0} (cs : List Check) (a x : A) → AllNumbers IsNa
     → (outcome (first_failing cs) a ≡ Ok x) ↔ (AllHold (conditions cs) × (x ≡ a))
 outcome_shows cs a x all =
     let some = all_numbered (conditions cs) all in (
-      λ e. let z = shown_accepted (first_failing cs) a e in ((accepts cs some).0 z, let f = outcome_shown a z in cc),
+      λ e.
+          let z = shown_accepted (first_failing cs) a e in
+          let f = outcome_shown a z in ((accepts cs some).0 z, cc),
       λ h. outcome_shown a ((accepts cs some).1 h.0) ∙ ap Ok (sym h.1),
     )
 
@@ -30,14 +32,17 @@ unfolding named
 target_named M a t = (refl, (refl, (refl, tt)))
 
 -- the modulus or the step is refused, whatever else is asked
-module _ {A B : Type 0} (M a : ℕ) (t : A) (b : B) {e : Refusal} (h : outcome (refusal M a) t ≡ Err e) where
+module _ {A B : Type 0} (M a : ℕ) (t : A) (b : B) {e : Refusal}
+    (h : outcome (refusal M a) t ≡ Err e) where
   pub argument_first : (x : ℕ) → outcome (argument_refusal M a x) b ≡ Err e
   unfolding refusal argument_refusal
-  argument_first x = refused_first (checks M a) (check 9 _ ∷ []) b (refused_alike (refusal M a) t b h)
+  argument_first x =
+      refused_first (checks M a) (check 9 _ ∷ []) b (refused_alike (refusal M a) t b h)
 
   pub target_first : (x : ℕ) → outcome (target_refusal M a x) b ≡ Err e
   unfolding refusal target_refusal
-  target_first x = refused_first (checks M a) (check 10 _ ∷ []) b (refused_alike (refusal M a) t b h)
+  target_first x =
+      refused_first (checks M a) (check 10 _ ∷ []) b (refused_alike (refusal M a) t b h)
 
 -- both are accepted
 pub record Accepted (M a : ℕ) : Type 0 where

@@ -13,7 +13,8 @@ returns-in_err-denominators c = search (rules, argument_first)
 
 pub returns-then-denominators-last : goal.returns-then-denominators-last
 unfolding digits_answer
-returns-then-denominators-last c = argument_refused (tabled c.in_ok-denominators.ensures) _ c.if-denominators-last.true
+returns-then-denominators-last c =
+    argument_refused (tabled c.in_ok-denominators.ensures) _ c.if-denominators-last.true
 
 pub loop-row-init : goal.loop-row-init
 loop-row-init c =

@@ -12,7 +12,8 @@ returns-in_err-remainders c = search (rules, argument_first)
 
 pub returns-then-denominators-last : goal.returns-then-denominators-last
 unfolding residue_answer
-returns-then-denominators-last c = argument_refused (tabled c.in_ok-remainders.ensures) _ c.if-denominators-last.true
+returns-then-denominators-last c =
+    argument_refused (tabled c.in_ok-remainders.ensures) _ c.if-denominators-last.true
 
 pub loop-row-init : goal.loop-row-init
 loop-row-init c =
@@ -28,9 +29,11 @@ subtract-residue-requires c =
     let i = c.loop-row.invariant in (term_fits i c.loop-row-test.true, residue_below i)
 
 pub loop-row-preserved : goal.loop-row-preserved
-loop-row-preserved c = rw c.subtract-residue.ensures (reducing_next c.loop-row.invariant c.loop-row-test.true)
+loop-row-preserved c =
+    rw c.subtract-residue.ensures (reducing_next c.loop-row.invariant c.loop-row-test.true)
 
 pub returns : goal.returns
 unfolding residue_answer
 returns c =
-    let i = c.loop-row.invariant in ap Ok (residue_made i (omega arith)) ∙ argument_accepted i.taking _
+    let i = c.loop-row.invariant in
+    ap Ok (residue_made i (omega arith)) ∙ argument_accepted i.taking _
