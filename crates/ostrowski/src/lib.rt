@@ -24,8 +24,7 @@ pub fn digits(modulus: u64, step: u64, argument: u64) -> Result<Numeral, Refusal
     ensures { result ≡ digits_answer modulus step argument }
 {
     let mut digits = [0u64; 88];
-    // Each call takes the columns that it needs out of the table: one function that hands the table
-    // over to both is slower, by 70 to 170 ns.
+    // One function that hands the table over to both calls is slower, by 70 to 170 ns.
     let Table {
         denominators,
         last,
