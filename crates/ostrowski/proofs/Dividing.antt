@@ -46,11 +46,11 @@ module _ {M a t b u p q rest same other : ℕ} {odd : Bool}
   small = d.accepted.small
 
   -- this row's denominator
-  fits : q ≤ 2 ^ 62
-  fits =
+  within : q ≤ M
+  within =
       let w = d.taken.drawn in
       let h = ((expansion.promised).bounded M a small).denominator_within d.row w.there in
-      omega (arith, w.denominator_is, d.accepted.most)
+      omega (arith, w.denominator_is)
 
   module _ (some : u ≡ 0 → ⊥) where
     positive : 0 < u
@@ -73,8 +73,9 @@ module _ {M a t b u p q rest same other : ℕ} {odd : Bool}
     end = period_is small d.taken z
 
     -- what the difference of the sums asks for
-    pub sums_allowed : (q ≤ 2 ^ 62) × (0 < q) × (same + other < 2 * q)
-    sums_allowed = omega (arith, end, fits, period_positive small, end_below small d.taken z)
+    pub sums_allowed : (M ≤ 2 ^ 62) × (q ≤ M) × (0 < q) × (same + other < 2 * q)
+    sums_allowed =
+        omega (arith, end, d.accepted, within, period_positive small, end_below small d.taken z)
 
     rest_left : rest ≡ t % gcd a M
     rest_left = rest_is small d.taken z d.target
@@ -108,7 +109,9 @@ module _ {M a t b u p q rest same other : ℕ} {odd : Bool}
 module _ {M a t b u p q rest same other : ℕ} {odd : Bool}
     (d : Dividing M a t b u p q rest same other odd) (some : u ≡ 0 → ⊥) where
   pub next_fits : p + b / u * q ≤ 2 ^ 62
-  next_fits = fits (dividing_next d some)
+  next_fits = omega (arith, d.accepted, within (dividing_next d some))
 
   pub sum_fits : same + rest / u * q < 2 ^ 63
-  sum_fits = omega (arith, fits d, next_fits, next_below (small d) d.taken (positive d some))
+  sum_fits =
+      let below = next_below (small d) d.taken (positive d some) in
+      omega (arith, d.accepted, within d, next_fits)
