@@ -16,7 +16,10 @@ use Rattle.segment.specs.declared.Verdict.TheVariants.{Clear, Possible}
 use Rattle.parabola.specs.Parabola.{value_at, slope_at, is_hard, hard_list, centred}
 use Rattle.domain.specs.Domain.{parabola_of, centred_of, hard_arguments, listed_arguments, hard_values, covering_of, Accepted}
 use Rattle.domain.specs.declared.Domain.{Domain}
-use Rattle.domain.specs.declared.DomainAnswer.TheVariants.{Searched}
+use Rattle.domain.specs.Answer.{marks_of}
+use Rattle.domain.specs.Marks.{mark_number}
+use Rattle.domain.specs.declared.Searched.{Searched}
+use Rattle.std.proofs.Common.{Ok}
 use Rattle.domain.proofs.Promises.{promised}
 use Rattle.text.proofs.Promises as text
 use Rattle.job.specs.Output.{places, answer_of, verdict_name, argument_lines, report, printed}
@@ -58,19 +61,23 @@ all_hard =
     filter_full (is_hard (centred_of longest_answered)) 4096 0
     (λ x. (less (value_at (centred_of longest_answered) x) (centred_of longest_answered).window).1 ((c.hard x).1 (inl (omega (arith, (constant x).0)))))
 
+-- what a search finds that lists them all
+abbrev found : Verdict → Searched
+found v = record { first = v; listed = 4096 }
+
 -- and so phase 1 does not clear it
-answered : answer_of longest_answered ≡ Searched Possible 4096
+answered : answer_of longest_answered ≡ Ok (found Possible)
 answered = go (verdict regular (covering_of longest_answered)) refl
   where
-    go : (v : Verdict) → v ≡ verdict regular (covering_of longest_answered) → answer_of longest_answered ≡ Searched Possible 4096
-    go v e = possible v (((correct longest_answered).searched v 4096).1 (taken_on, room, room, e, sym all_hard))
+    go : (v : Verdict) → v ≡ verdict regular (covering_of longest_answered) → answer_of longest_answered ≡ Ok (found Possible)
+    go v e = possible v (((correct longest_answered).searched (found v)).1 (taken_on, room, room, e, sym all_hard))
       where
         room : length (hard_arguments longest_answered) ≤ length (replicate {A = ℕ} places 0)
         room = omega (arith, all_hard, length-replicate {A = ℕ} places 0)
 
-        possible : (v : Verdict) → answer_of longest_answered ≡ Searched v 4096 → answer_of longest_answered ≡ Searched Possible 4096
+        possible : (v : Verdict) → answer_of longest_answered ≡ Ok (found v) → answer_of longest_answered ≡ Ok (found Possible)
         possible Possible a = a
-        possible Clear a = absurd (omega (arith, ((correct longest_answered).cleared 4096 a).0))
+        possible Clear a = absurd (omega (arith, ((correct longest_answered).cleared (found Clear) a refl).0))
 
 -- arguments of sixteen digits with values of nineteen take 52 bytes each
 lines_long : (xs vs : List ℕ) → length vs ≡ length xs → ((x : ℕ) → Memᴰ x xs → (10 ^ 15 ≤ x) × (x < 10 ^ 16))
@@ -108,4 +115,4 @@ longest_printed =
     let digits = (text.promised).decimals (length (hard_arguments longest_answered)) in
     ap length (printed_report longest_answered answered)
     ∙ simp (length-append, length-map)
-    (omega (arith, (marks_correct longest_answered answered).eight, digits.few 3 (omega (arith, all_hard)), digits.many 3 (omega (arith, all_hard)), lines))
+    (omega (arith, length-map (marks_of longest_answered) mark_number, (marks_correct longest_answered answered).eight, digits.few 3 (omega (arith, all_hard)), digits.many 3 (omega (arith, all_hard)), lines))

@@ -13,6 +13,7 @@ use Rattle.text.specs.Text.{bytes, decimal_within, decimal}
 use Rattle.text.proofs.Laws.{one_digit}
 use Rattle.job.specs.Reading.{six_lines, rendering, reading}
 use Rattle.job.specs.Output.{answer_of, verdict_name, argument_lines, refused, report, printed, output_with, output_of}
+use Rattle.numbers.specs.Refusals.{number_of}
 use Rattle.job.specs.Promise.{TextCorrect, OutputCorrect, Promised}
 use Rattle.job.proofs.Outputs.{search_refuses, number_is, marks_correct, hard_listed, values_listed, printed_refused, printed_report, by_answer, output_short}
 use Rattle.job.proofs.Longest.{longest_answered, longest_printed}
@@ -54,10 +55,10 @@ no_job_eight d e =
     by_answer (answer_of d)
     (λ n r.
     let ninth = ap (λ (l : List ℕ). get_or l 8 0) (sym (printed_refused d r) ∙ e) in
-    ⊎_elim (λ small. omega (arith, small, digit_at n (omega arith), ninth))
+    ⊎_elim (λ small. omega (arith, small, digit_at (number_of n) (omega arith), ninth))
     (λ eleven. omega (arith, ap (λ (k : ℕ). get_or (refused k) 8 0) eleven, eleven_at, ninth))
     (number_is d r))
-    (λ v n r. unfold report in let b = ap (λ (l : List ℕ). get_or l 0 0) (sym (printed_report d r) ∙ e) in omega (arith, b))
+    (λ v r. unfold report in let b = ap (λ (l : List ℕ). get_or l 0 0) (sym (printed_report d r) ∙ e) in omega (arith, b))
 
 malformed_of : (r : Option Domain) → output_with r ≡ bytes "refused=8\n" → r ≡ None
 unfolding output_with
@@ -84,10 +85,10 @@ output_correct =
       job_refused = λ t d n s e. output_is t s ∙ printed_refused d e;
       without_window = λ t d s e low high slope value some most.
           output_is t s ∙ printed_refused d (((domain.promised).without_window d e).refused 4096 4096 low high slope value some most) ∙ five_printed;
-      job_reported = λ t d first listed s e. output_is t s ∙ printed_report d e;
-      marked = λ d first listed e. marks_correct d e;
-      hard = λ d first listed e. hard_listed d e;
-      values = λ d first listed e. values_listed d e;
+      job_reported = λ t d found s e. output_is t s ∙ printed_report d e;
+      marked = λ d found e. marks_correct d e;
+      hard = λ d found e. hard_listed d e;
+      values = λ d found e. values_listed d e;
       longest_is = refl;
       fits = λ t. output_short (reading t);
       longest_output = (rendering longest_answered, ap length (output_is (rendering longest_answered) ((reading_correct.read (rendering longest_answered) longest_answered).1 (omega arith, inl refl))) ∙ longest_printed);

@@ -1,12 +1,16 @@
 -- What the job program prints. Assumes nothing: these are definitions.
-use Rattle.std.specs.Prelude.{Option, Some, None, List, [], ◌∷◌, ◌++◌, map, ℕ, ◌<◌, length, get_or}
+use Rattle.std.specs.Prelude.{Option, Some, None, List, [], ◌∷◌, ◌++◌, map, ℕ, length, Result, Ok, Err}
+use Rattle.numbers.specs.Refusals.{number_of}
+use Rattle.numbers.specs.declared.refusals.Refusal.{Refusal}
+use Rattle.numbers.specs.declared.refusals.Refusal.TheVariants.{Malformed}
 use Rattle.segment.specs.declared.Verdict.{Verdict}
 use Rattle.segment.specs.declared.Verdict.TheVariants.{Clear, Possible}
 use Rattle.domain.specs.Domain.{listed_arguments, hard_values}
 use Rattle.domain.specs.Answer.{domain_answer, marks_of, marks_after, list_after, values_after}
 use Rattle.domain.specs.declared.Domain.{Domain}
-use Rattle.domain.specs.declared.DomainAnswer.{DomainAnswer}
-use Rattle.domain.specs.declared.DomainAnswer.TheVariants.{Refused, Searched}
+use Rattle.domain.specs.Marks.{mark_numbers}
+use Rattle.domain.specs.declared.marks.Mark.{Mark}
+use Rattle.domain.specs.declared.Searched.{Searched}
 use Rattle.text.specs.Text.{bytes, digit, decimal, line}
 use Rattle.job.specs.Reading.{reading, reading_refusal}
 
@@ -19,7 +23,7 @@ abbrev pub longest : ℕ
 longest = 213034
 
 -- the answer of the domain search for a job
-abbrev pub answer_of : Domain → DomainAnswer
+abbrev pub answer_of : Domain → Result Searched Refusal
 answer_of d = domain_answer d places places
 
 -- what a verdict is called
@@ -27,10 +31,7 @@ unfoldable pub verdict_name : Verdict → List ℕ
 verdict_name Clear = bytes "cleared"
 verdict_name Possible = bytes "possible"
 
--- marks that are one digit each
-abbrev pub SmallMarks : (marks : List ℕ) → Type 0
-SmallMarks marks = (i : ℕ) → get_or marks i 0 < 10
-
+-- the numbers of marks, a digit each
 abbrev pub mark_digits : (marks : List ℕ) → List ℕ
 mark_digits = map digit
 
@@ -57,20 +58,20 @@ report first marks arguments values =
     (argument_lines arguments values)))
 
 -- what is printed of a domain that got this answer
-unfoldable pub printed_for : DomainAnswer → Domain → List ℕ
-printed_for (Refused n) d = refused n
-printed_for (Searched first listed) d = report first (marks_of d) (listed_arguments d) (hard_values d)
+unfoldable pub printed_for : Result Searched Refusal → Domain → List ℕ
+printed_for (Err r) d = refused (number_of r)
+printed_for (Ok s) d = report s.first (mark_numbers (marks_of d)) (listed_arguments d) (hard_values d)
 
 unfoldable pub printed : Domain → List ℕ
 printed d = printed_for (answer_of d) d
 
 -- the answer to a text, with so many places: that of the domain search, or refusal 8
-unfoldable pub job_answer : Option Domain → (list_places value_places : ℕ) → DomainAnswer
+unfoldable pub job_answer : Option Domain → (list_places value_places : ℕ) → Result Searched Refusal
 job_answer (Some d) m n = domain_answer d m n
-job_answer None m n = Refused (reading_refusal None)
+job_answer None m n = Err Malformed
 
 -- the marks then, from what they were
-unfoldable pub job_marks : Option Domain → (list_places value_places : ℕ) → (old : List ℕ) → List ℕ
+unfoldable pub job_marks : Option Domain → (list_places value_places : ℕ) → (old : List Mark) → List Mark
 job_marks (Some d) m n old = marks_after d m n old
 job_marks None m n old = old
 

@@ -1,6 +1,6 @@
 -- What is promised of a job's text and of what is printed. `Promised`, at the end, is all of it; proofs/Promises.antt proves it.
 -- Assumes nothing: these are statements.
-use Rattle.std.specs.Prelude.{◌≡◌, Some, None, List, [], ◌∷◌, ◌++◌, ◌↔◌, ◌⊎◌, ℕ, ◌+◌, ◌^◌, ◌≤◌, ◌<◌, ℤ, nat_abs, length, take}
+use Rattle.std.specs.Prelude.{◌≡◌, Some, None, List, [], ◌∷◌, ◌++◌, ◌↔◌, ◌⊎◌, ℕ, ◌+◌, ◌^◌, ◌≤◌, ◌<◌, ℤ, nat_abs, length, take, Ok, Err}
 use Rattle.numbers.specs.Lists.{overwrite_front}
 use Rattle.numbers.specs.Promise.{Enumerates, BufferCorrect}
 use Rattle.segment.specs.declared.Verdict.{Verdict}
@@ -9,7 +9,10 @@ use Rattle.domain.specs.Domain.{listed_arguments, hard_values}
 use Rattle.domain.specs.Answer.{domain_answer, marks_of}
 use Rattle.domain.specs.Promise.{ListedInNumbers, ValuesBeside, RefusedFor, MarksCorrect}
 use Rattle.domain.specs.declared.Domain.{Domain}
-use Rattle.domain.specs.declared.DomainAnswer.TheVariants.{Refused, Searched}
+use Rattle.domain.specs.Marks.{mark_numbers}
+use Rattle.domain.specs.declared.Searched.{Searched}
+use Rattle.numbers.specs.Refusals.{number_of}
+use Rattle.numbers.specs.declared.refusals.Refusal.{Refusal}
 use Rattle.text.specs.Text.{bytes, decimal, signed_decimal}
 use Rattle.job.specs.Reading.{six_lines, rendering, InRange, reading, reading_refusal}
 use Rattle.job.specs.Output.{longest, answer_of, verdict_name, mark_digits, argument_lines, refused, report, output_of}
@@ -64,19 +67,19 @@ pub record OutputCorrect : Type 0 where
   -- a job is asked of the domain search with 4,096 places for arguments and as many for values
   pub asked : (d : Domain) → answer_of d ≡ domain_answer d 4096 4096
   -- a job that is refused, which is as the domain search refuses it, prints its number alone
-  pub refuses : (d : Domain) (n : ℕ) → (answer_of d ≡ Refused n) ↔ RefusedFor d 4096 4096 n
-  pub job_refused : (t : List ℕ) (d : Domain) (n : ℕ) → reading t ≡ Some d → answer_of d ≡ Refused n → output_of t ≡ refused n
+  pub refuses : (d : Domain) (r : Refusal) → (answer_of d ≡ Err r) ↔ RefusedFor d 4096 4096 (number_of r)
+  pub job_refused : (t : List ℕ) (d : Domain) (r : Refusal) → reading t ≡ Some d → answer_of d ≡ Err r → output_of t ≡ refused (number_of r)
   -- a job with a window of 0 that nothing asked before the window refuses prints the single line of refusal 5
   pub without_window : (t : List ℕ) (d : Domain) → reading t ≡ Some d → d.window ≡ 0 → 2 ≤ d.modulus → d.modulus ≤ 2 ^ 62 → d.slope < d.modulus → d.value < d.modulus
       → 1 ≤ d.count → d.count ≤ 1048576 → output_of t ≡ bytes "refused=5\n"
   -- a job that is not refused prints phase 1's verdict, the marks, how many arguments are listed, and a line for each hard argument x with origin + x and V(x): what is
   -- hard is said in the job's own numbers, the arguments are all there, each once and ascending, and each has its own value beside it
-  pub job_reported : (t : List ℕ) (d : Domain) (first : Verdict) (listed : ℕ) → reading t ≡ Some d → answer_of d ≡ Searched first listed
-      → output_of t ≡ report first (marks_of d) (listed_arguments d) (hard_values d)
-  pub marked : (d : Domain) (first : Verdict) (listed : ℕ) → answer_of d ≡ Searched first listed → MarksCorrect d first (marks_of d)
-  pub hard : (d : Domain) (first : Verdict) (listed : ℕ) → answer_of d ≡ Searched first listed
-      → Enumerates (ListedInNumbers d) listed (listed_arguments d)
-  pub values : (d : Domain) (first : Verdict) (listed : ℕ) → answer_of d ≡ Searched first listed → ValuesBeside d (listed_arguments d) (hard_values d)
+  pub job_reported : (t : List ℕ) (d : Domain) (s : Searched) → reading t ≡ Some d → answer_of d ≡ Ok s
+      → output_of t ≡ report s.first (mark_numbers (marks_of d)) (listed_arguments d) (hard_values d)
+  pub marked : (d : Domain) (s : Searched) → answer_of d ≡ Ok s → MarksCorrect d s.first (mark_numbers (marks_of d))
+  pub hard : (d : Domain) (s : Searched) → answer_of d ≡ Ok s
+      → Enumerates (ListedInNumbers d) s.listed (listed_arguments d)
+  pub values : (d : Domain) (s : Searched) → answer_of d ≡ Ok s → ValuesBeside d (listed_arguments d) (hard_values d)
   -- what is printed fits a buffer of 213,034 bytes, which is what the code has, and no smaller one; over the front of one it leaves every place after it as it was
   pub longest_is : longest ≡ 213034
   pub fits : (t : List ℕ) → length (output_of t) ≤ 213034

@@ -14,7 +14,8 @@ ghost use Rattle.job.specs.Output.{output_with, output_of, longest};
 
 mod report;
 
-use domain::Domain;
+use domain::{Domain, Mark, Searched};
+use numbers::Refusal;
 use report::{put_refusal, put_report};
 use text::Writer;
 
@@ -74,16 +75,16 @@ pub fn run_job(text: &[u8], out: &mut [u8; LONGEST]) -> usize
 fn print_answer(job: Option<Domain>, out: &mut Writer)
     ensures { Wrote out.old (output_with job) out.new }
 {
-    let mut marks = [0u8; 8];
+    let mut marks = [Mark::Unseen; 8];
     let mut list = [0u64; 4096];
     let mut values = [0u64; 4096];
     match search(job, &mut marks, &mut list, &mut values) {
-        domain::DomainAnswer::Refused(number) => put_refusal(number as u64, out),
-        domain::DomainAnswer::Searched { first, listed } => put_report(
-            first,
+        Err(refusal) => put_refusal(u32::from(refusal) as u64, out),
+        Ok(found) => put_report(
+            found.first,
             &marks,
-            &list[..listed as usize],
-            &values[..listed as usize],
+            &list[..found.listed as usize],
+            &values[..found.listed as usize],
             out,
         ),
     }
@@ -93,10 +94,10 @@ fn print_answer(job: Option<Domain>, out: &mut Writer)
 // values as they were.
 fn search(
     job: Option<Domain>,
-    marks: &mut [u8; 8],
+    marks: &mut [Mark; 8],
     list: &mut [u64],
     values: &mut [u64],
-) -> domain::DomainAnswer
+) -> Result<Searched, Refusal>
     ensures value { result ≡ job_answer job (length list.old) (length values.old) }
     ensures marks_after { marks.new ≡ job_marks job (length list.old) (length values.old) marks.old }
     ensures list_after { list.new ≡ job_list job (length values.old) list.old }
@@ -104,6 +105,6 @@ fn search(
 {
     match job {
         Some(domain) => domain::search_domain(domain, marks, list, values),
-        None => domain::DomainAnswer::Refused(8),
+        None => Err(Refusal::Malformed),
     }
 }

@@ -1,11 +1,13 @@
 // What is printed of a job: the line of a refusal; or phase 1's verdict, the marks, and the hard
 // arguments with their values. Each name that is printed stands here, and once.
 ghost use Rattle.std.specs.Prelude.{[]};
+ghost use Rattle.domain.specs.Marks.{mark_numbers};
 ghost use Rattle.text.specs.Text.{bytes, line};
 ghost use Rattle.text.specs.Writing.{Wrote};
-ghost use Rattle.job.specs.Output.{verdict_name, SmallMarks, mark_digits, argument_lines};
+ghost use Rattle.job.specs.Output.{verdict_name, mark_digits, argument_lines};
 ghost use Rattle.job.specs.Output.{refused, report};
 
+use domain::Mark;
 use text::Writer;
 
 // A refusal is its number alone.
@@ -19,13 +21,12 @@ pub(crate) fn put_refusal(number: u64, out: &mut Writer)
 // What is printed of a job that is not refused.
 pub(crate) fn put_report(
     first: segment::Verdict,
-    marks: &[u8],
+    marks: &[Mark],
     arguments: &[u64],
     values: &[u64],
     out: &mut Writer,
 )
-    requires { SmallMarks marks.now }
-    ensures { Wrote out.old (report first marks.now arguments.now values.now) out.new }
+    ensures { Wrote out.old (report first (mark_numbers marks.now) arguments.now values.now) out.new }
 {
     put_first(first, out);
     put_parts(marks, out);
@@ -54,9 +55,8 @@ fn put_verdict(verdict: segment::Verdict, out: &mut Writer)
 }
 
 // The line of the marks.
-fn put_parts(marks: &[u8], out: &mut Writer)
-    requires { SmallMarks marks.now }
-    ensures { Wrote out.old (line (bytes "parts=") (mark_digits marks.now) []) out.new }
+fn put_parts(marks: &[Mark], out: &mut Writer)
+    ensures { Wrote out.old (line (bytes "parts=") (mark_digits (mark_numbers marks.now)) []) out.new }
 {
     out.put(b"parts=");
     put_marks(marks, out);
@@ -64,12 +64,11 @@ fn put_parts(marks: &[u8], out: &mut Writer)
 }
 
 // The marks, a digit each.
-fn put_marks(marks: &[u8], out: &mut Writer)
-    requires { SmallMarks marks.now }
-    ensures { Wrote out.old (mark_digits marks.now) out.new }
+fn put_marks(marks: &[Mark], out: &mut Writer)
+    ensures { Wrote out.old (mark_digits (mark_numbers marks.now)) out.new }
 {
     for mark in marks {
-        out.put_byte(b'0' + *mark);
+        out.put_byte(b'0' + u8::from(*mark));
     }
 }
 

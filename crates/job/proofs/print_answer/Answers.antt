@@ -7,35 +7,30 @@ use Rattle.job.proofs.print_answer.Goals as goal
 
 pub slice_bounds-list-end : goal.slice_bounds-list-end
 slice_bounds-list-end c =
-    let found = output_reported c.args.job (sym c.search.ensures.value ∙ c.in-Searched.is) in
+    let found = output_reported c.args.job (sym c.search.ensures.value ∙ c.in-Ok.is) in
     rw c.search.ensures.list_after found.within
 
 pub slice_bounds-values-end : goal.slice_bounds-values-end
 slice_bounds-values-end c =
-    let found = output_reported c.args.job (sym c.search.ensures.value ∙ c.in-Searched.is) in
+    let found = output_reported c.args.job (sym c.search.ensures.value ∙ c.in-Ok.is) in
     rw c.search.ensures.values_after found.values_within
 
-pub slice_bounds-put_report-end-in-Searched : goal.slice_bounds-put_report-end-in-Searched
-slice_bounds-put_report-end-in-Searched c =
-    let found = output_reported c.args.job (sym c.search.ensures.value ∙ c.in-Searched.is) in
+pub slice_bounds-put_report-end-in-Ok : goal.slice_bounds-put_report-end-in-Ok
+slice_bounds-put_report-end-in-Ok c =
+    let found = output_reported c.args.job (sym c.search.ensures.value ∙ c.in-Ok.is) in
     sym (length-take-le _ _ (rw c.search.ensures.list_after found.within))
 
-pub slice_bounds-put_report-end-in-Searched-2 : goal.slice_bounds-put_report-end-in-Searched-2
-slice_bounds-put_report-end-in-Searched-2 c =
-    let found = output_reported c.args.job (sym c.search.ensures.value ∙ c.in-Searched.is) in
+pub slice_bounds-put_report-end-in-Ok-2 : goal.slice_bounds-put_report-end-in-Ok-2
+slice_bounds-put_report-end-in-Ok-2 c =
+    let found = output_reported c.args.job (sym c.search.ensures.value ∙ c.in-Ok.is) in
     sym (length-take-le _ _ (rw c.search.ensures.values_after found.values_within))
 
-pub put_report-requires : goal.put_report-requires
-put_report-requires c =
-    let found = output_reported c.args.job (sym c.search.ensures.value ∙ c.in-Searched.is) in
-    rw c.search.ensures.marks_after found.small
+pub returns-in-Err : goal.returns-in-Err
+returns-in-Err c =
+    rw (output_refused c.args.job (sym c.search.ensures.value ∙ c.in-Err.is), sym c.from.ensures) c.put_refusal.ensures
 
-pub returns-in-Refused : goal.returns-in-Refused
-returns-in-Refused c =
-    rw (output_refused c.args.job (sym c.search.ensures.value ∙ c.in-Refused.is)) c.put_refusal.ensures
-
-pub returns-in-Searched : goal.returns-in-Searched
-returns-in-Searched c =
+pub returns-in-Ok : goal.returns-in-Ok
+returns-in-Ok c =
     let s = c.search.ensures in
-    let found = output_reported c.args.job (sym s.value ∙ c.in-Searched.is) in
+    let found = output_reported c.args.job (sym s.value ∙ c.in-Ok.is) in
     rw (output_from found s.marks_after s.list_after s.values_after) c.put_report.ensures
