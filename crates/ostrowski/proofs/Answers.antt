@@ -1,22 +1,22 @@
 -- The answers of the three calls: refused by the first condition that does not hold, and else what
 -- is asked for. Assumes nothing.
-use Rattle.std.proofs.Common.{◌≡◌, ℕ, suc, ◌*◌, ◌%◌, ◌^◌, ◌≤◌, ◌<◌, Ok, ◌↔◌, inl, inr, IsOkAnd, refl, sym, ap, ◌∙◌, subst, arith}
+use Rattle.std.proofs.Common.{◌≡◌, ℕ, suc, ◌*◌, ◌%◌, ◌^◌, ◌≤◌, ◌<◌, Ok, ◌↔◌, inl, inr, IsOkAnd, refl, sym, ap, ◌∙◌, arith}
 use Rattle.numbers.specs.Checklist.{AllHold, RefusedBy}
 use Rattle.numbers.specs.Refusals.{number_in}
 use Rattle.numbers.specs.declared.refusals.Refusal.TheVariants.{Target}
 use Rattle.numbers.proofs.Checklists.{accepts, refuses}
 use Rattle.numbers.proofs.Equivalences.{through}
 use Rattle.numbers.proofs.Lists.{padded_places, padded_front, padded_after}
-use Rattle.numbers.proofs.Outcomes.{outcome_number, failing_named, error_numbered, shown_holds}
+use Rattle.numbers.proofs.Outcomes.{failing_number, error_numbered, shown_holds, outcome_refuses}
 use Rattle.expansion.specs.Rows.{last, period}
 use Rattle.expansion.proofs.Promises as expansion
 use Rattle.ostrowski.specs.Digits.{digits_of, residue_of, argument_of}
 use Rattle.ostrowski.specs.Answer.{argument_checks, target_checks, argument_refusal, target_refusal, with_digits, digits_answer, residue_answer, divide_answer}
-use Rattle.ostrowski.specs.Promise.{ArgumentAsked, NumeralCorrect, DigitsAnswerCorrect, ResidueAnswerCorrect, DivideAnswerCorrect}
+use Rattle.ostrowski.specs.Promise.{ArgumentAsked, TargetAsked, NumeralCorrect, DigitsAnswerCorrect, ResidueAnswerCorrect, DivideAnswerCorrect}
 use Rattle.ostrowski.proofs.Writing.{digits_many}
 use Rattle.ostrowski.proofs.Residues.{digits_residue}
 use Rattle.ostrowski.proofs.Targets.{argument_only, target_correct, argument_correct}
-use Rattle.ostrowski.proofs.Refusals.{refused_by, shown_by, argument_named, target_named}
+use Rattle.ostrowski.proofs.Refusals.{outcome_shows, argument_named, target_named}
 
 -- ---- digits
 
@@ -25,39 +25,43 @@ module _ (M a x : ℕ) where
   number : argument_refusal M a x ≡ number_in (digits_answer M a x)
   unfolding argument_refusal digits_answer
   number =
-      sym (outcome_number _ (with_digits (digits_of M a x) (last M a)) (failing_named (argument_checks M a x) (argument_named M a x)))
-
-  pub asked : (argument_refusal M a x ≡ 0) ↔ ((2 ≤ M) × (M ≤ 2 ^ 62) × (a < M) × (x < period M a))
-  unfolding argument_refusal
-  asked =
-      let r = accepts (argument_checks M a x) (omega arith) in
-      (λ e. let h = r.0 e in (h.0.0, h.0.1, h.1.0, h.1.1.0), λ h. r.1 ((h.0, h.1), (h.2, (h.3, tt))))
-
-  numeral_correct : a < M → M ≤ 2 ^ 62 → NumeralCorrect M a x (with_digits (digits_of M a x) (last M a))
-  numeral_correct small most =
-      let n = digits_many M a x in
-      record {
-        counted = refl;
-        places = padded_places 88 (digits_of M a x) (omega (arith, n, ((expansion.promised).few M a small).last_at_most_88 most));
-        of_row = λ i l. padded_front 88 (digits_of M a x) i (omega (arith, n));
-        after = λ i l. padded_after 88 (digits_of M a x) i (omega (arith, n));
-      }
-
-  shown : argument_refusal M a x ≡ 0 → IsOkAnd (digits_answer M a x) (NumeralCorrect M a x)
-  unfolding digits_answer
-  shown e =
-      let h = asked.0 e in
-      shown_holds (argument_refusal M a x) (NumeralCorrect M a x) e (numeral_correct h.2 h.1)
+      let numeral = with_digits (digits_of M a x) (last M a) in
+      sym (failing_number (argument_checks M a x) numeral (argument_named M a x))
 
   refused : (n : ℕ) → (argument_refusal M a x ≡ suc n) ↔ RefusedBy (ArgumentAsked M a x) (suc n)
   unfolding argument_refusal
   refused = refuses (argument_checks M a x)
 
+  accepted : (argument_refusal M a x ≡ 0) ↔ ((2 ≤ M) × (M ≤ 2 ^ 62) × (a < M) × (x < period M a))
+  unfolding argument_refusal
+  accepted =
+      let r = accepts (argument_checks M a x) (omega arith) in
+      (λ e. let h = r.0 e in omega arith, λ h. r.1 (omega arith))
+
+  numeral_correct : a < M → M ≤ 2 ^ 62
+      → NumeralCorrect M a x (with_digits (digits_of M a x) (last M a))
+  numeral_correct small most =
+      let d = digits_of M a x in
+      let n = digits_many M a x in
+      let few = ((expansion.promised).few M a small).last_at_most_88 most in
+      record {
+        counted = refl;
+        places = padded_places 88 d (omega arith);
+        of_row = λ i l. padded_front 88 d i (omega arith);
+        after = λ i l. padded_after 88 d i (omega arith);
+      }
+
+  shown : argument_refusal M a x ≡ 0 → IsOkAnd (digits_answer M a x) (NumeralCorrect M a x)
+  unfolding digits_answer
+  shown e =
+      let h = accepted.0 e in
+      shown_holds (argument_refusal M a x) (NumeralCorrect M a x) e (numeral_correct h.2 h.1)
+
   pub digits_answer_correct : DigitsAnswerCorrect M a x (digits_answer M a x)
   digits_answer_correct =
       record {
         refused = λ n. through (sym number) (refused n);
-        accepted = through (sym number) asked;
+        accepted = through (sym number) accepted;
         refused_empty = error_numbered (digits_answer M a x);
         shown = λ e. shown (number ∙ e);
       }
@@ -69,12 +73,17 @@ unfolding residue_answer argument_refusal
 residue_answer_correct M a x =
     let cs = argument_checks M a x in
     let y = residue_of M a (digits_of M a x) in
-    let made : AllHold (ArgumentAsked M a x) → y ≡ a * x % M = λ h. digits_residue M a x h.1.0 h.1.1.0 in
-    let found = shown_by cs y (omega arith) in
-    let shown : AllHold (ArgumentAsked M a x) → residue_answer M a x ≡ Ok (a * x % M) = λ h. (found _).1 (h, sym (made h)) in
+    let all = argument_named M a x in
+    let made : AllHold (ArgumentAsked M a x) → y ≡ a * x % M =
+    λ h. digits_residue M a x h.1.0 h.1.1.0 in
+    let shown : AllHold (ArgumentAsked M a x) → residue_answer M a x ≡ Ok (a * x % M) =
+    λ h. (outcome_shows cs y _ all).1 (h, sym (made h)) in
     record {
-      refused = refused_by cs y (omega arith) (argument_named M a x);
-      found = λ z. (λ e. let f = (found z).0 e in (f.0, f.1 ∙ made f.0), λ h. shown h.0 ∙ ap Ok (sym h.1));
+      refused = λ r. outcome_refuses cs y r all;
+      found = λ z. (
+        λ e. let f = (outcome_shows cs y z all).0 e in (f.0, f.1 ∙ made f.0),
+        λ h. shown h.0 ∙ ap Ok (sym h.1),
+      );
       shown = λ h. (ap number_in (shown h), shown h);
     }
 
@@ -83,21 +92,22 @@ unfolding divide_answer target_refusal
 divide_answer_correct M a t =
     let cs = target_checks M a t in
     let y = argument_of M a t in
-    let found = shown_by cs y (omega arith) in
-    let refused = refused_by cs y (omega arith) (target_named M a t) in
+    let all = target_named M a t in
+    let made : AllHold (TargetAsked M a t) → (y < period M a) × (a * y % M ≡ t) =
+    λ h. argument_correct M a h.1.0 t h.1.1.0 in
+    let shown : AllHold (TargetAsked M a t) → divide_answer M a t ≡ Ok y =
+    λ h. (outcome_shows cs y y all).1 (h, refl) in
     record {
-      refused = refused;
+      refused = λ r. outcome_refuses cs y r all;
       found = λ x. (
-        λ e. let f = (found x).0 e in
-            (f.0, subst (λ (n : ℕ). (n < period M a) × (a * n % M ≡ t)) (sym f.1) (argument_correct M a f.0.1.0 t f.0.1.1.0)),
-        λ h. (found x).1 (h.0, argument_only M a h.0.1.0 t x h.1.0 h.1.1),
+        λ e. let f = (outcome_shows cs y x all).0 e in (f.0, rw f.1 (made f.0)),
+        λ h. shown h.0 ∙ ap Ok (sym (argument_only M a h.0.1.0 t x h.1.0 h.1.1)),
       );
-      shown = λ h.
-          let e = (found y).1 (h, refl) in
-          (ap number_in e, rw e (argument_correct M a h.1.0 t h.1.1.0));
+      shown = λ h. (ap number_in (shown h), rw (shown h) (made h));
       refused_if_none = λ low most small.
           let e = (target_correct M a small t).exists in (
-            λ r s. let f = (found y).1 (((low, most), (small, (e.0 s, tt))), refl) in cc,
-            λ n. (refused Target).1 (inr ((low, most), inr (small, inl (refl, λ h. n (e.1 h))))),
+            λ r s. let f = shown ((low, most), (small, (e.0 s, tt))) in cc,
+            λ n. (outcome_refuses cs y Target all).1
+                (inr ((low, most), inr (small, inl (refl, λ h. n (e.1 h))))),
           );
     }

@@ -16,7 +16,8 @@ module _ (M a x : ℕ) (small : a < M) (within : x < period M a) where
         allowed = digits_allowed M a small x within;
         sums_to = digits_sum_to M a small x within;
         only = λ d h e. sym (digits_are M a small d h) ∙ ap (digits_of M a) e;
-        terms_below = λ i l. (product_below M a x small within i l, term_below M a x small within i l);
+        terms_below = λ i l.
+            (product_below M a x small within i l, term_below M a x small within i l);
         residue = unfold residue_of in digits_residue M a x small within;
       }
 
@@ -26,7 +27,8 @@ module _ (M a x t : ℕ) where
   divides e =
       let h = ((residue_answer_correct M a x).found t).0 e in
       let p = h.0 in
-      ((divide_answer_correct M a t).found x).1 ((p.0, (p.1.0, ((target_correct M a p.1.0 t).anywhere x (sym h.1), tt))), (p.1.1.0, sym h.1))
+      let target = (target_correct M a p.1.0 t).anywhere x (sym h.1) in
+      ((divide_answer_correct M a t).found x).1 ((p.0, (p.1.0, (target, tt))), (p.1.1.0, sym h.1))
 
   multiplies : divide_answer M a t ≡ Ok x → residue_answer M a x ≡ Ok t
   multiplies e =

@@ -1,12 +1,14 @@
--- The Ostrowski digits of an argument x, over the denominators of the expansion of a and M; the residue that they give, which is here a·x mod M and not a segment's; and
--- the argument of a residue (document 02, 2.4). Assumes nothing: these are definitions.
+-- The Ostrowski digits of an argument x, over the denominators of the expansion of a and M; the
+-- residue that they give, which is here a·x mod M and not a segment's; and the argument of a
+-- residue (document 02, 2.4). Assumes nothing: these are definitions.
 use Rattle.std.specs.Prelude.{List, [], ◌∷◌, ◌++◌, ℕ, zero, suc, ◌*◌, ◌/◌, ◌%◌, eqb, get_or}
 use Rattle.numbers.specs.Integers.{◌modulo◌}
 use Rattle.numbers.specs.Lists.{filter_range}
 use Rattle.numbers.specs.Sums.{alternating_sum}
 use Rattle.expansion.specs.Rows.{last, remainder_at, denominator_at, period}
 
--- the digits of x over the rows below n, row 0 first: x is divided by the highest denominator, and what is left has the digits below
+-- the digits of x over the rows below n, row 0 first: x is divided by the highest denominator, and
+-- what is left has the digits below
 unfoldable pub digits_over : (denominator : ℕ → ℕ) → (n x : ℕ) → List ℕ
 digits_over q zero x = []
 digits_over q (suc n) x = digits_over q n (x % q n) ++ (x / q n ∷ [])

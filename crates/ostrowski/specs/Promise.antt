@@ -27,7 +27,8 @@ pub record Allowed (M a : ℕ) (d : List ℕ) : Type 0 where
   -- d(i) ≤ k(i+1)
   pub at_most : (i : ℕ) → i < last M a → get_or d i 0 ≤ quotient_at M a i
   -- d(i-1) = 0 where d(i) = k(i+1)
-  pub zero_below : (i : ℕ) → suc i < last M a → get_or d (suc i) 0 ≡ quotient_at M a (suc i) → get_or d i 0 ≡ 0
+  pub zero_below : (i : ℕ) → suc i < last M a
+      → get_or d (suc i) 0 ≡ quotient_at M a (suc i) → get_or d i 0 ≡ 0
 
 -- x is the sum of d(i)·q(i)
 abbrev pub SumsTo : (M a : ℕ) → (d : List ℕ) → (x : ℕ) → Type 0
@@ -41,9 +42,11 @@ pub record DigitsCorrect (M a x : ℕ) : Type 0 where
   pub only : (d : List ℕ) → Allowed M a d → SumsTo M a d x → d ≡ digits_of M a x
   -- every term is below M
   pub terms_below : (i : ℕ) → i < last M a
-      → (get_or (digits_of M a x) i 0 * denominator_at M a i < M) × (get_or (digits_of M a x) i 0 * remainder_at M a i < M)
+      → (get_or (digits_of M a x) i 0 * denominator_at M a i < M)
+      × (get_or (digits_of M a x) i 0 * remainder_at M a i < M)
   -- the sum of d(i)·theta(i), with the terms of odd rows subtracted, is a·x modulo M
-  pub residue : alternating_sum (λ i. get_or (digits_of M a x) i 0 * remainder_at M a i) (last M a) 0 modulo M ≡ a * x % M
+  pub residue : alternating_sum (λ i. get_or (digits_of M a x) i 0 * remainder_at M a i) (last M a)
+      0 modulo M ≡ a * x % M
 
 -- a list that has the conditions is that of an argument below P
 abbrev pub ListCorrect : (M a : ℕ) → (d : List ℕ) → Type 0
@@ -51,7 +54,8 @@ ListCorrect M a d = (x : ℕ) × (x < period M a) × SumsTo M a d x × (digits_o
 
 -- ---- modular division
 
--- a target t: an argument below P has it as its residue exactly where t is below M and a multiple of gcd(a, M), and then exactly one has
+-- a target t: an argument below P has it as its residue exactly where t is below M and a multiple
+-- of gcd(a, M), and then exactly one has
 pub record TargetCorrect (M a t : ℕ) : Type 0 where
   pub exists : ((x : ℕ) × (x < period M a) × (a * x % M ≡ t)) ↔ ((t < M) × (gcd a M ∣ t))
   pub unique : (x y : ℕ) → x < period M a → y < period M a → a * x % M ≡ t → a * y % M ≡ t → x ≡ y
@@ -77,12 +81,13 @@ pub record NumeralCorrect (M a x : ℕ) (numeral : Numeral) : Type 0 where
   pub of_row : (i : ℕ) → i < last M a → get_or numeral.digits i 0 ≡ get_or (digits_of M a x) i 0
   pub after : (i : ℕ) → last M a ≤ i → get_or numeral.digits i 0 ≡ 0
 
--- an answer of digits: a refusal exactly where its condition is the first that does not hold, and no
--- digits then; the digits exactly where every condition holds
+-- an answer of digits: a refusal exactly where its condition is the first that does not hold, and
+-- no digits then; the digits exactly where every condition holds
 pub record DigitsAnswerCorrect (M a x : ℕ) (answered : Result Numeral Refusal) : Type 0 where
   pub refused : (n : ℕ) → (number_in answered ≡ suc n) ↔ RefusedBy (ArgumentAsked M a x) (suc n)
   pub accepted : (number_in answered ≡ 0) ↔ ((2 ≤ M) × (M ≤ 2 ^ 62) × (a < M) × (x < period M a))
-  pub refused_empty : 0 < number_in answered → IsErrAnd answered (λ r. number_of r ≡ number_in answered)
+  pub refused_empty : 0 < number_in answered
+      → IsErrAnd answered (λ r. number_of r ≡ number_in answered)
   pub shown : number_in answered ≡ 0 → IsOkAnd answered (NumeralCorrect M a x)
 
 -- residue: refused exactly where a condition does not hold, by the first one, and else a·x mod M
@@ -119,4 +124,5 @@ pub record Promised : Type 0 where
   -- residue and divide are inverse to each other
   pub inverse : (M a x t : ℕ) → (residue_answer M a x ≡ Ok t) ↔ (divide_answer M a t ≡ Ok x)
   -- the numbers of the two cases of an answer
-  pub numbers : (r : Refusal) (n : ℕ) → (number_in {A = ℕ} (Err r) ≡ number_of r) × (number_in (Ok n) ≡ 0)
+  pub numbers : (r : Refusal) (n : ℕ)
+      → (number_in {A = ℕ} (Err r) ≡ number_of r) × (number_in (Ok n) ≡ 0)

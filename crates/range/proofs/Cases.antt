@@ -34,7 +34,12 @@ module _ (lo hi : ℕ) (xs : List ℕ) where
   unfolding start_of count_of
   ordered a l =
       let t = le-leb lo hi l in
-      record { start = rw (a, t); count = rw (a, t); forward = below_monotone lo hi xs l; enough = below_at_most_all hi xs }
+      record {
+        start = rw (a, t);
+        count = rw (a, t);
+        forward = below_monotone lo hi xs l;
+        enough = below_at_most_all hi xs;
+      }
 
   pub unordered : ascending xs ≡ false → EmptyAtStart lo hi xs
   unfolding start_of count_of
@@ -42,10 +47,14 @@ module _ (lo hi : ℕ) (xs : List ℕ) where
 
   pub crossed : hi < lo → EmptyAtStart lo hi xs
   unfolding start_of count_of
-  crossed h = let t = lt-leb lo hi h in record { start = rw (t, and-false); count = rw (t, and-false) }
+  crossed h =
+      let t = lt-leb lo hi h in record { start = rw (t, and-false); count = rw (t, and-false) }
 
   pub within : start_of lo hi xs + count_of lo hi xs ≤ length xs
   unfolding start_of count_of
   within =
-      elim (ascending xs && leb lo hi) as (λ t. cond t (below lo xs) 0 + cond t (below hi xs - below lo xs) 0 ≤ length xs)
-      [ true ↦ omega (arith, below_at_most_all lo xs, below_at_most_all hi xs) | false ↦ omega arith ]
+      elim (ascending xs && leb lo hi)
+      as (λ t. cond t (below lo xs) 0 + cond t (below hi xs - below lo xs) 0 ≤ length xs) [
+        | true ↦ omega (arith, below_at_most_all lo xs, below_at_most_all hi xs)
+        | false ↦ omega arith
+      ]

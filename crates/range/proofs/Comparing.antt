@@ -49,7 +49,8 @@ passes : (xs : List ℕ) → Ascending xs → ascending xs ≡ true
 passes [] a = single [] (omega arith)
 passes (x ∷ []) a = single (x ∷ []) (omega arith)
 passes (x ∷ y ∷ xs) a =
-    up x y xs (a 0 1 (omega arith) (omega arith)) ∙ passes (y ∷ xs) (λ i j h l. a (suc i) (suc j) (omega arith) (omega arith))
+    up x y xs (a 0 1 (omega arith) (omega arith))
+    ∙ passes (y ∷ xs) (λ i j h l. a (suc i) (suc j) (omega arith) (omega arith))
 
 pub ascending_correct : (xs : List ℕ) → (ascending xs ≡ true) ↔ Ascending xs
 ascending_correct [] = (λ e. ascends {n = 0} ascending_nil, passes [])
@@ -77,7 +78,8 @@ pairs_tell (w ∷ ws) (x ∷ []) so_far e pair = absurd (omega (arith, e))
 pairs_tell (w ∷ ws) (x ∷ y ∷ xs) so_far e pair =
     let p = pair 0 (omega arith) in
     rw (p.0, p.1)
-    (pairs_tell ws (y ∷ xs) (so_far && ltb x y) (omega (arith, e)) (λ k h. pair (suc k) (omega arith))
+    (pairs_tell ws (y ∷ xs) (so_far && ltb x y) (omega (arith, e))
+    (λ k h. pair (suc k) (omega arith))
     ∙ and_assoc so_far (ltb x y) (ascending (y ∷ xs)))
 
 -- all windows of two in turn tell whether the list ascends strictly
@@ -96,4 +98,5 @@ windows_tell {xs} p two rest whole run =
         → IfSome o (IsPair xs k)
     is_pair k None f = tt
     is_pair k (Some x) f =
-        let reads = f.2.2 in (rw add-zero at (reads 0 0 (omega arith)), rw (← add-one k) (reads 1 0 (omega arith)))
+        let reads = f.2.2 in
+        (rw add-zero at (reads 0 0 (omega arith)), rw (← add-one k) (reads 1 0 (omega arith)))

@@ -28,7 +28,9 @@ module _ (b x : ℕ) (xs : List ℕ) where
   below_passed h = rw (le-ltb x b h)
 
   pub below_next : below b (x ∷ xs) ≤ suc (below b xs)
-  below_next = by_cases (dec_lt x b) (λ h. omega (arith, below_counted h)) (λ h. omega (arith, below_passed (omega arith)))
+  below_next =
+      by_cases (dec_lt x b) (λ h. omega (arith, below_counted h))
+      (λ h. omega (arith, below_passed (omega arith)))
 
 pub below_at_most_all : (b : ℕ) (xs : List ℕ) → below b xs ≤ length xs
 below_at_most_all b [] = unfold below in omega arith
@@ -38,8 +40,10 @@ pub below_monotone : (a b : ℕ) (xs : List ℕ) → a ≤ b → below a xs ≤ 
 below_monotone a b [] l = unfold below in omega arith
 below_monotone a b (x ∷ xs) l =
     let most = below_monotone a b xs l in
-    by_cases (dec_lt x a) (λ h. omega (arith, below_counted a x xs h, below_counted b x xs (omega arith)))
-    (λ h. by_cases (dec_lt x b) (λ k. omega (arith, below_passed a x xs (omega arith), below_counted b x xs k))
+    by_cases (dec_lt x a)
+    (λ h. omega (arith, below_counted a x xs h, below_counted b x xs (omega arith)))
+    (λ h. by_cases (dec_lt x b)
+    (λ k. omega (arith, below_passed a x xs (omega arith), below_counted b x xs k))
     (λ k. omega (arith, below_passed a x xs (omega arith), below_passed b x xs (omega arith))))
 
 -- ---- the entries below a bound come first
@@ -49,19 +53,26 @@ rest_ascends x xs a i j h l = a (suc i) (suc j) (omega arith) (omega arith)
 
 module _ (b : ℕ) where
   -- there are no more of them than stand before an entry that is not below the bound
-  pub few_below : (xs : List ℕ) → Ascending xs → (i : ℕ) → (i < length xs → b ≤ get_or xs i 0) → below b xs ≤ i
+  pub few_below : (xs : List ℕ) → Ascending xs → (i : ℕ) → (i < length xs → b ≤ get_or xs i 0)
+      → below b xs ≤ i
   few_below [] a i h = unfold below in omega arith
   few_below (x ∷ xs) a zero h =
       let first : b ≤ x = h (omega arith) in
-      omega (arith, below_passed b x xs first, few_below xs (rest_ascends x xs a) 0 (λ l. omega (arith, a 0 1 (omega arith) (omega arith))))
-  few_below (x ∷ xs) a (suc i) h = omega (arith, below_next b x xs, few_below xs (rest_ascends x xs a) i (λ l. h (omega arith)))
+      let none = few_below xs (rest_ascends x xs a) 0
+      (λ l. omega (arith, a 0 1 (omega arith) (omega arith))) in
+      omega (arith, below_passed b x xs first, none)
+  few_below (x ∷ xs) a (suc i) h =
+      let few = few_below xs (rest_ascends x xs a) i (λ l. h (omega arith)) in
+      omega (arith, below_next b x xs, few)
 
   -- and more than stand before one that is
-  pub many_below : (xs : List ℕ) → Ascending xs → (i : ℕ) → i < length xs → get_or xs i 0 < b → i < below b xs
+  pub many_below : (xs : List ℕ) → Ascending xs → (i : ℕ) → i < length xs → get_or xs i 0 < b
+      → i < below b xs
   many_below [] a i l h = absurd (not-suc-le-zero l)
   many_below (x ∷ xs) a zero l h = omega (arith, below_counted b x xs h)
   many_below (x ∷ xs) a (suc i) l h =
-      omega (arith, below_counted b x xs (omega (arith, h, a 0 (suc i) (omega arith) l)), many_below xs (rest_ascends x xs a) i (omega arith) h)
+      let many = many_below xs (rest_ascends x xs a) i (omega arith) h in
+      omega (arith, below_counted b x xs (omega (arith, h, a 0 (suc i) (omega arith) l)), many)
 
 -- ---- so where they end is how many they are
 

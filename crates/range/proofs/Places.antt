@@ -1,5 +1,5 @@
--- In a list that ascends strictly the entries below a bound stand before the others: so the range has the entries between its bounds, and no other.
--- Assumes nothing.
+-- In a list that ascends strictly the entries below a bound stand before the others: so the range
+-- has the entries between its bounds, and no other. Assumes nothing.
 use mathlib.Core.Path.{◌≡◌, refl, sym, ◌∙◌, ap}
 use mathlib.Core.List.Memᴰ
 use mathlib.Core.List.{List, Memᴰ}
@@ -28,18 +28,22 @@ module _ (b : ℕ) (xs : List ℕ) (a : Ascending xs) (i : ℕ) where
 
 pub handed_back : (lo hi : ℕ) (xs : List ℕ) → HandedBack lo hi xs
 handed_back lo hi xs =
-    let rest = drop (start_of lo hi xs) xs in
+    let start = start_of lo hi xs in
+    let count = count_of lo hi xs in
+    let rest = drop start xs in
     record {
       placed = (refl, refl);
-      many = length-take-le (count_of lo hi xs) rest (omega (arith, within lo hi xs, length-drop (start_of lo hi xs) xs));
-      in_order = λ i h. get_or-take (count_of lo hi xs) rest i 0 h ∙ get_or-drop (start_of lo hi xs) xs i 0;
+      many = length-take-le count rest (omega (arith, within lo hi xs, length-drop start xs));
+      in_order = λ i h. get_or-take count rest i 0 h ∙ get_or-drop start xs i 0;
     }
 
 -- ---- the range of a list that ascends strictly
 
 module _ {lo hi : ℕ} {xs : List ℕ} (r : Between lo hi xs) (a : Ascending xs) where
-  inside : (i : ℕ) → start_of lo hi xs ≤ i → i < start_of lo hi xs + count_of lo hi xs → (lo ≤ get_or xs i 0) × (get_or xs i 0 < hi)
-  inside i h k = (from_count lo xs a i (omega arith) (omega arith), before_count hi xs a i (omega arith))
+  inside : (i : ℕ) → start_of lo hi xs ≤ i → i < start_of lo hi xs + count_of lo hi xs
+      → (lo ≤ get_or xs i 0) × (get_or xs i 0 < hi)
+  inside i h k =
+      (from_count lo xs a i (omega arith) (omega arith), before_count hi xs a i (omega arith))
 
   exactly : (x : ℕ) → Memᴰ x (range_of lo hi xs) ↔ (Memᴰ x xs × (lo ≤ x) × (x < hi))
   exactly x = (of_range, in_range)
@@ -53,7 +57,8 @@ module _ {lo hi : ℕ} {xs : List ℕ} (r : Between lo hi xs) (a : Ascending xs)
           let l : p.0 < count_of lo hi xs = omega (arith, p.1, back.many) in
           let e = sym (back.in_order p.0 l) ∙ p.2 in
           let b = inside (start_of lo hi xs + p.0) (omega arith) (omega arith) in
-          (Memᴰ.cast (sym e) (member_at 0 xs (start_of lo hi xs + p.0) (omega (arith, r))), omega arith, omega arith)
+          let there = member_at 0 xs (start_of lo hi xs + p.0) (omega (arith, r)) in
+          (Memᴰ.cast (sym e) there, omega arith, omega arith)
 
       in_range : Memᴰ x xs × (lo ≤ x) × (x < hi) → Memᴰ x (range_of lo hi xs)
       in_range m =
@@ -63,7 +68,8 @@ module _ {lo hi : ℕ} {xs : List ℕ} (r : Between lo hi xs) (a : Ascending xs)
           let i = p.0 - start_of lo hi xs in
           let l : i < count_of lo hi xs = omega (arith, r) in
           let e : start_of lo hi xs + i ≡ p.0 = omega (arith, r) in
-          Memᴰ.cast (sym (back.in_order i l ∙ ap (λ (j : ℕ). get_or xs j 0) e ∙ p.2)) (member_at 0 (range_of lo hi xs) i (omega (arith, back.many)))
+          let f = back.in_order i l ∙ ap (λ (j : ℕ). get_or xs j 0) e ∙ p.2 in
+          Memᴰ.cast (sym f) (member_at 0 (range_of lo hi xs) i (omega (arith, back.many)))
 
   pub range_correct : RangeCorrect lo hi xs
   range_correct =

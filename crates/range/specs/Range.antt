@@ -34,9 +34,9 @@ place_of lo hi xs =
 abbrev pub range_of : (lo hi : ℕ) → List ℕ → List ℕ
 range_of lo hi xs = take (count_of lo hi xs) (drop (start_of lo hi xs) xs)
 
--- `part` is the stretch of `whole` that starts at the place `from` and has `count` entries of `size`
--- bytes (8 for a `u64`): it holds what stands there, and it lies there; a pointer is a block of
--- memory and a number of bytes from its beginning
+-- `part` is the stretch of `whole` that starts at the place `from` and has `count` entries of
+-- `size` bytes (8 for a `u64`): it holds what stands there, and it lies there; a pointer is a block
+-- of memory and a number of bytes from its beginning
 pub record Stretch (size : ℕ) (whole part : Bor (List ℕ)) (from count : ℕ) : Type 0 where
   pub holds : part.now ≡ take count (drop from whole.now)
   pub place : part.ref_ptr ≡ (whole.ref_ptr.0, from * size + whole.ref_ptr.1)

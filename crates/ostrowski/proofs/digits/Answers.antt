@@ -4,33 +4,22 @@ use Rattle.std.proofs.Common.{Ok, refl, ap, ◌∙◌, rules, arith}
 use Rattle.expansion.specs.Answer.{answer}
 use Rattle.ostrowski.specs.Answer.{digits_answer}
 use Rattle.ostrowski.proofs.Refusals.{argument_first}
-use Rattle.ostrowski.proofs.Taking.{tabled, few_rows, argument_refused, argument_accepted, taking_first, taking_next, denominator_positive, none_written, digit_written, digits_written}
+use Rattle.ostrowski.proofs.Taking.{tabled, argument_refused, argument_accepted, taking_first, taking_next, none_written, digit_written, digits_written}
 use Rattle.ostrowski.proofs.digits.Goals as goal
 
 pub returns-in_err-denominators : goal.returns-in_err-denominators
 unfolding answer digits_answer
 returns-in_err-denominators c = search (rules, argument_first)
 
-pub offset_bounds-denominators-last : goal.offset_bounds-denominators-last
-offset_bounds-denominators-last c = let h = few_rows (tabled c.in_ok-denominators.ensures) in omega arith
-
-pub bounds-denominators-last : goal.bounds-denominators-last
-bounds-denominators-last c = let h = few_rows (tabled c.in_ok-denominators.ensures) in omega arith
-
 pub returns-then-denominators-last : goal.returns-then-denominators-last
 unfolding digits_answer
-returns-then-denominators-last c = argument_refused (tabled c.in_ok-denominators.ensures) _ c.if-denominators-last.true
+returns-then-denominators-last c =
+    argument_refused (tabled c.in_ok-denominators.ensures) _ c.if-denominators-last.true
 
 pub loop-row-init : goal.loop-row-init
 loop-row-init c =
     let t = taking_first (tabled c.in_ok-denominators.ensures) c.if-denominators-last.false in
     record { taking = t; written = none_written t refl }
-
-pub nonzero_div-digits : goal.nonzero_div-digits
-nonzero_div-digits c = denominator_positive c.loop-row.invariant.taking c.loop-row-test.true
-
-pub nonzero_rem-rest : goal.nonzero_rem-rest
-nonzero_rem-rest c = denominator_positive c.loop-row.invariant.taking c.loop-row-test.true
 
 pub loop-row-preserved : goal.loop-row-preserved
 loop-row-preserved c =

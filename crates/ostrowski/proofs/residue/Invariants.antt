@@ -5,4 +5,5 @@ use Rattle.ostrowski.proofs.Taking.{Reducing}
 use Rattle.ostrowski.proofs.residue.Given as goal
 
 abbrev pub invariant-loop-row : goal.invariant-loop-row
-invariant-loop-row l = Reducing l.modulus l.step l.argument l.remainders l.denominators l.last l.residue l.rest l.row
+invariant-loop-row l =
+    Reducing l.modulus l.step l.argument l.remainders l.denominators l.last l.residue l.rest l.row

@@ -10,5 +10,7 @@ returns c =
     let b = c.args.bound in
     let xs = c.args.list.now in
     let a = (ascending_correct xs).0 c.requires in
-    point_is_below b xs a c.partition_point.ensures.bound
-    (IsPartitionPoint-from_clause (λ x. ltb x b) xs _ c.partition_point.ensures.partitioned (parted b xs a) (λ p r q k. search rules))
+    let e = c.partition_point.ensures in
+    point_is_below b xs a e.bound
+    (IsPartitionPoint-from_clause (λ x. ltb x b) xs _ e.partitioned (parted b xs a)
+    (λ p r q k. search rules))

@@ -8,4 +8,5 @@ returns c =
     let run = c.fold.ensures.runs in
     let made = c.windows.ensures in
     run.3 and_pair (λ b w r f k. search rules)
-    ∙ windows_tell run.0 (rw run.1 made.size) (rw run.1 made.rest) run.2 (made.runs run.0 run.0.seen (rw (run.1, made.size) (omega arith)))
+    ∙ windows_tell run.0 (rw run.1 made.size) (rw run.1 made.rest) run.2
+    (made.runs run.0 run.0.seen (rw (run.1, made.size) (omega arith)))
