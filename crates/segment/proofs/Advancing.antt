@@ -1,4 +1,5 @@
--- The cuts of a row: which can be made, and where they move the point below the start. Assumes nothing.
+-- The cuts of a row: which can be made, and where they move the point below the start. Assumes
+-- nothing.
 use mathlib.Core.Path.{◌≡◌, refl}
 use Rattle.std.proofs.Math.Bool.{or-true}
 use Prim.Native.Nat.{ℕ, ◌+◌, ◌-◌, ◌*◌, ◌/◌, ◌%◌, ◌≤◌, ◌<◌}

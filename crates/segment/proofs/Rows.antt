@@ -1,4 +1,5 @@
--- The rows: which is the last of a search, how the code divides one, and what it makes of it in each step. Assumes nothing.
+-- The rows: which is the last of a search, how the code divides one, and what it makes of it in
+-- each step. Assumes nothing.
 use mathlib.Core.Path.{◌≡◌, sym, ◌∙◌, ap}
 use mathlib.Core.Bool.{Bool, true, false, ◌||◌, cond, or-true, or-false, false≢true}
 use mathlib.Core.Logic.{⊎_elim, by_cases}
@@ -18,7 +19,8 @@ use Rattle.segment.proofs.Advancing.{cutting}
 -- ---- how often the long gaps can be cut, what that leaves, and whether the row is the last
 
 module _ (s : State) (positive : 0 < s.short) where
-  -- where the division leaves nothing: once less than the quotient, with the short length left, and the row is the last
+  -- where the division leaves nothing: once less than the quotient, with the short length left, and
+  -- the row is the last
   module _ (falls : s.short ≤ s.long) (e : s.long % s.short ≡ 0) where
     pub cuts_exact : suc (all_cuts s) ≡ quotient s
     cuts_exact =
@@ -34,7 +36,8 @@ module _ (s : State) (positive : 0 < s.short) where
     unfolding ends
     ends_exact N = rw (eq-eqb s.short (s.long - all_cuts s * s.short) (sym rest_exact), or-true)
 
-  -- else as often as the quotient, with the remainder left, and the row is the last where it reaches N
+  -- else as often as the quotient, with the remainder left, and the row is the last where it
+  -- reaches N
   module _ (some : 0 < s.long % s.short) where
     pub cuts_inexact : all_cuts s ≡ quotient s
     cuts_inexact = let d = div-add-mod' s.long s.short in div-eq_of_lt-le s.short (omega arith) (omega (arith, mod-lt s.long positive))

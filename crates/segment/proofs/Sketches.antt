@@ -1,5 +1,6 @@
--- The regular search for its distance alone goes through the states of the search. It leaves out the argument, by which an odd row of the search knows whether the start
--- lies in a long gap: the even row before it tells that. Assumes nothing.
+-- The regular search for its distance alone goes through the states of the search. It leaves out
+-- the argument, by which an odd row of the search knows whether the start lies in a long gap: the
+-- even row before it tells that. Assumes nothing.
 use mathlib.Core.Path.{◌≡◌, refl, sym, ◌∙◌, ap}
 use mathlib.Core.Bool.{Bool, true, false, not, cond, false≢true}
 use mathlib.Core.Logic.{⊎_elim, by_cases}
@@ -75,7 +76,8 @@ module _ {s : Segment} {t : State} (r : Running regular s true t) where
   abbrev left : ℕ
   left = t.long - all_cuts t * t.short
 
-  -- where the division leaves nothing of a long gap, the search cuts it once less, and the short length is left. A distance below what is left stays
+  -- where the division leaves nothing of a long gap, the search cuts it once less, and the short
+  -- length is left. A distance below what is left stays
   kept_distance : t.distance < left → from_lowest_cut t.distance (t.long % t.short) % t.short ≡ t.distance
   kept_distance h =
       ⊎_elim
@@ -84,7 +86,8 @@ module _ {s : Segment} {t : State} (r : Running regular s true t) where
       (mod-eq_of_lt (omega (arith, rest_inexact t (positive r) p, mod-lt t.long (positive r)))))
       (eq-zero-or-pos (t.long % t.short))
 
-  -- any other is less by what is left; and where that is the short length, the remainder is the same without it
+  -- any other is less by what is left; and where that is the short length, the remainder is the
+  -- same without it
   less_distance : left ≤ t.distance → from_lowest_cut t.distance (t.long % t.short) % t.short ≡ (t.distance - left) % t.short
   less_distance h =
       ⊎_elim
@@ -108,7 +111,8 @@ module _ {s : Segment} {t : State} (r : Running regular s true t) where
 
 -- ---- after an even row
 
--- the start lies in a long gap of the next row exactly where the point below it has not moved past all cuts
+-- the start lies in a long gap of the next row exactly where the point below it has not moved past
+-- all cuts
 wide_after_even : {s : Segment} {t : State} → Running regular s false t → ends s.count t ≡ false
     → not (eqb (t.distance / t.short) (quotient t)) ≡ ltb (regular_next false s.count t).argument (regular_next false s.count t).longs
 unfolding regular_next cut_state
@@ -139,12 +143,14 @@ wide_after_even {s} {t} r e =
 
 -- ---- row by row
 
--- a state, after n rows, and its sketch, while the search goes on. At an odd row the sketch tells whether the start lies in a long gap
+-- a state, after n rows, and its sketch, while the search goes on. At an odd row the sketch tells
+-- whether the start lies in a long gap
 record Sketched (s : Segment) (n : ℕ) (k : Sketch) : Type 0 where
   runs : Running regular s (is_odd n) (state_after regular s n)
   wide : Bool
   is : k ≡ sketch_of (state_after regular s n) wide
-  wide_is : is_odd n ≡ true → wide ≡ ltb (state_after regular s n).argument (state_after regular s n).longs
+  wide_is : is_odd n ≡ true
+      → wide ≡ ltb (state_after regular s n).argument (state_after regular s n).longs
 
 -- it is done where the search is, and has its distance then
 record Follows (s : Segment) (n : ℕ) (k : Sketch) : Type 0 where
@@ -161,18 +167,30 @@ divisible {s} {n} p =
       short_positive = positive r;
       below = omega (arith, (steppable r).below);
       fits = ⊎_elim
-          (λ z. omega (arith, (steppable r).all.fits, ap (λ (n : ℕ). n * t.longs) (cuts_exact t (positive r) (falls r) z)))
-          (λ h. omega (arith, (steppable r).all.fits, ap (λ (n : ℕ). n * t.longs) (cuts_inexact t (positive r) h)))
+          (λ z. omega (
+            arith,
+            (steppable r).all.fits,
+            ap (λ (n : ℕ). n * t.longs) (cuts_exact t (positive r) (falls r) z),
+          ))
+          (λ h. omega (
+            arith,
+            (steppable r).all.fits,
+            ap (λ (n : ℕ). n * t.longs) (cuts_inexact t (positive r) h),
+          ))
           (eq-zero-or-pos (t.long % t.short));
     })
 
--- the row of a sketch is that of its state, and tells whether the start lies in a long gap where the next row asks that
+-- the row of a sketch is that of its state, and tells whether the start lies in a long gap where
+-- the next row asks that
 record SameRow (s : Segment) (odd : Bool) (t : State) (wide : Bool) : Type 0 where
   wide_after : Bool
-  row : sketch_next odd s.count (sketch_of t wide) ≡ next_row s.count (sketch_of t wide) (regular_next odd s.count t).distance wide_after
-  wide_after_is : ends s.count t ≡ false → not odd ≡ true → wide_after ≡ ltb (regular_next odd s.count t).argument (regular_next odd s.count t).longs
+  row : sketch_next odd s.count (sketch_of t wide)
+      ≡ next_row s.count (sketch_of t wide) (regular_next odd s.count t).distance wide_after
+  wide_after_is : ends s.count t ≡ false → not odd ≡ true
+      → wide_after ≡ ltb (regular_next odd s.count t).argument (regular_next odd s.count t).longs
 
-same : {s : Segment} (odd : Bool) {t : State} → Running regular s odd t → (wide : Bool) → (odd ≡ true → wide ≡ ltb t.argument t.longs) → SameRow s odd t wide
+same : {s : Segment} (odd : Bool) {t : State} → Running regular s odd t → (wide : Bool)
+    → (odd ≡ true → wide ≡ ltb t.argument t.longs) → SameRow s odd t wide
 same false {t} r l w =
     record {
       wide_after = not (eqb (t.distance / t.short) (quotient t));
@@ -192,32 +210,46 @@ module _ {s : Segment} (a : Accepted s) where
   follows zero = unfold after in record {
     done_is = refl;
     distance_is = refl;
-    sketched = λ d. record { runs = running_after regular a 0 d; wide = true; is = refl; wide_is = λ f. absurd (false≢true f) };
+    sketched = λ d. record {
+      runs = running_after regular a 0 d;
+      wide = true;
+      is = refl;
+      wide_is = λ f. absurd (false≢true f);
+    };
   }
   follows (suc n) =
       let f = follows n in
+      let t = state_after regular s n in
       ⊎_elim
       (λ e. let p = f.sketched e in
       let q = same (is_odd n) p.runs p.wide p.wide_is in
       let k_is = step_is sketch_walk s n e ∙ ap (sketch_next (is_odd n) s.count) p.is ∙ q.row in
       let t_is = step_is (walk_of regular) s n (sym f.done_is ∙ e) in
-      let done_is = ap (λ (k : Sketch). k.done) k_is ∙ same_end p.runs (regular_next (is_odd n) s.count (state_after regular s n)).distance p.wide q.wide_after in
+      let done_is = ap (λ (k : Sketch). k.done) k_is
+      ∙ same_end p.runs (regular_next (is_odd n) s.count t).distance p.wide q.wide_after in
       record {
         done_is = done_is ∙ sym (ap (λ (t : State). t.done) t_is);
-        distance_is = ap (λ (k : Sketch). k.distance) k_is ∙ sym (ap (λ (t : State). t.distance) t_is);
-        sketched = λ d. let on : ends s.count (state_after regular s n) ≡ false = sym done_is ∙ d in
+        distance_is =
+            ap (λ (k : Sketch). k.distance) k_is ∙ sym (ap (λ (t : State). t.distance) t_is);
+        sketched = λ d. let on : ends s.count t ≡ false = sym done_is ∙ d in
             record {
               runs = running_after regular a (suc n) (ap (λ (t : State). t.done) t_is ∙ on);
               wide = q.wide_after;
-              is = k_is ∙ same_row p.runs on _ p.wide q.wide_after refl ∙ ap (λ (t : State). sketch_of t q.wide_after) (sym t_is);
-              wide_is = λ o. q.wide_after_is on o ∙ sym (ap (λ (t : State). ltb t.argument t.longs) t_is);
+              is =
+                  k_is ∙ same_row p.runs on _ p.wide q.wide_after refl
+                  ∙ ap (λ (t : State). sketch_of t q.wide_after) (sym t_is);
+              wide_is = λ o. q.wide_after_is on o
+                  ∙ sym (ap (λ (t : State). ltb t.argument t.longs) t_is);
             };
       })
       (λ e. let k_is = stays sketch_walk s n e in
       let t_is = stays (walk_of regular) s n (sym f.done_is ∙ e) in
       record {
-        done_is = ap (λ (k : Sketch). k.done) k_is ∙ f.done_is ∙ sym (ap (λ (t : State). t.done) t_is);
-        distance_is = ap (λ (k : Sketch). k.distance) k_is ∙ f.distance_is ∙ sym (ap (λ (t : State). t.distance) t_is);
+        done_is =
+            ap (λ (k : Sketch). k.done) k_is ∙ f.done_is ∙ sym (ap (λ (t : State). t.done) t_is);
+        distance_is =
+            ap (λ (k : Sketch). k.distance) k_is ∙ f.distance_is
+            ∙ sym (ap (λ (t : State). t.distance) t_is);
         sketched = λ d. absurd (false≢true (sym d ∙ ap (λ (k : Sketch). k.done) k_is ∙ e));
       })
       (dichotomy (after sketch_walk s n).done)

@@ -1,4 +1,5 @@
--- A search step by step: the invariant holds after every step, each step makes more points, and 29 steps are enough. Assumes nothing.
+-- A search step by step: the invariant holds after every step, each step makes more points, and 29
+-- steps are enough. Assumes nothing.
 use mathlib.Core.Path.{◌≡◌, refl, sym, ◌∙◌, ap}
 use mathlib.Core.Bool.{Bool, true, false, not, false≢true}
 use mathlib.Core.List.Memᴰ
@@ -51,7 +52,8 @@ record Stepped (k : Search) (s : Segment) (n : ℕ) (t : State) : Type 0 where
 
 module _ (k : Search) {s : Segment} (a : Accepted s) where
   stepped : (n : ℕ) → Stepped k s n (state_after k s n)
-  stepped zero = record { invariant = unfold after in begins k s a refl; drawn = unfold after in λ _. refl }
+  stepped zero =
+      unfold after in record { invariant = begins k s a refl; drawn = λ _. refl }
   stepped (suc n) =
       let w = stepped n in
       ⊎_elim
@@ -66,7 +68,8 @@ module _ (k : Search) {s : Segment} (a : Accepted s) where
       }))
       (dichotomy (state_after k s n).done)
 
-  pub running_after : (n : ℕ) → (state_after k s n).done ≡ false → Running k s (is_odd n) (state_after k s n)
+  pub running_after : (n : ℕ) → (state_after k s n).done ≡ false
+      → Running k s (is_odd n) (state_after k s n)
   running_after n = (stepped n).invariant.running
 
   -- where a row can be taken; 29 are enough
@@ -85,7 +88,8 @@ module _ (k : Search) {s : Segment} (a : Accepted s) where
 
   -- ---- what is promised
 
-  -- the state after n steps stands at the configuration that the search would reach for as many points, or at the one that it reaches
+  -- the state after n steps stands at the configuration that the search would reach for as many
+  -- points, or at the one that it reaches
   label_is : (n : ℕ) → (m : ℕ)
       × (configuration (points (state_after k s n)) (state_after k s n).index (state_after k s n).part ≡ reached k s.unit s.step m)
   label_is n =

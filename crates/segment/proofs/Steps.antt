@@ -1,5 +1,6 @@
--- The steps of both searches keep their invariant. A row whose cuts leave less than the short length is followed by another one; where they
--- leave just the short length, the lengths are equal and there are as many points as the period. Assumes nothing.
+-- The steps of both searches keep their invariant. A row whose cuts leave less than the short
+-- length is followed by another one; where they leave just the short length, the lengths are equal
+-- and there are as many points as the period. Assumes nothing.
 use mathlib.Core.Path.{◌≡◌, refl, sym, ◌∙◌, ap}
 use mathlib.Core.Bool.{Bool, true, false, not, cond, false≢true}
 use mathlib.Core.Logic.{◌⊎◌, inl, inr, ⊎_elim, by_cases}

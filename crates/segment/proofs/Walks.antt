@@ -18,7 +18,8 @@ module _ {T : Type 0} (w : Walking T) (s : Segment) where
   unfolding after
   chosen n e = ap (λ (b : Bool). cond b (after w s n) (w.next (is_odd n) s.count (after w s n))) e
 
-  pub step_is : (n : ℕ) → w.done (after w s n) ≡ false → after w s (suc n) ≡ w.next (is_odd n) s.count (after w s n)
+  pub step_is : (n : ℕ) → w.done (after w s n) ≡ false
+      → after w s (suc n) ≡ w.next (is_odd n) s.count (after w s n)
   step_is n = chosen n
 
   pub stays : (n : ℕ) → w.done (after w s n) ≡ true → after w s (suc n) ≡ after w s n

@@ -1,5 +1,6 @@
--- The regular search for its distance alone, as functions of numbers, for the contracts of the functions that take its steps. specs/State.antt has the search
--- itself. Assumes nothing: these are definitions.
+-- The regular search for its distance alone, as functions of numbers, for the contracts of the
+-- functions that take its steps. specs/State.antt has the search itself. Assumes nothing: these are
+-- definitions.
 use Rattle.std.specs.Prelude.{Bool, true, not, ◌||◌, cond, ℕ, ◌+◌, ◌-◌, ◌*◌, ◌/◌, ◌%◌, ◌^◌, ◌≤◌, ◌<◌, eqb, leb, ltb}
 use Rattle.segment.specs.Walk.{Walking}
 use Rattle.segment.specs.State.{first_state}
@@ -19,7 +20,8 @@ sketch_of t l =
       done = t.done;
     }
 
--- how many long gaps the next row has, if there is one: as many as the short ones, and one more for each cut of each long one
+-- how many long gaps the next row has, if there is one: as many as the short ones, and one more for
+-- each cut of each long one
 abbrev pub next_longs : Sketch → ℕ
 next_longs s = s.shorts + s.long / s.short * s.longs
 
@@ -29,7 +31,8 @@ pub record Divisible (N : ℕ) (s : Sketch) : Type 0 where
   pub below : s.longs ≤ N
   pub fits : next_longs s ≤ 2 ^ 62
 
--- the next row, with this distance, and whether the start lies in a long gap. After a row that leaves nothing, or reaches N, the search is done
+-- the next row, with this distance, and whether the start lies in a long gap. After a row that
+-- leaves nothing, or reaches N, the search is done
 abbrev pub next_row : (N : ℕ) → Sketch → (distance : ℕ) → (wide : Bool) → Sketch
 next_row N s d l =
     record {
@@ -42,11 +45,13 @@ next_row N s d l =
       done = eqb (s.long % s.short) 0 || leb (N - s.longs) (next_longs s);
     }
 
--- an even row, cut from the left: after as many moves as cuts the start lies in what is left of a long gap
+-- an even row, cut from the left: after as many moves as cuts the start lies in what is left of a
+-- long gap
 abbrev pub even_next : (N : ℕ) → Sketch → Sketch
 even_next N s = next_row N s (s.distance % s.short) (not (eqb (s.distance / s.short) (s.long / s.short)))
 
--- the distance from the lowest cut of a gap of which the cuts leave `rest`; below that cut, the distance as it is
+-- the distance from the lowest cut of a gap of which the cuts leave `rest`; below that cut, the
+-- distance as it is
 abbrev pub from_lowest_cut : (distance rest : ℕ) → ℕ
 from_lowest_cut d r = cond (ltb d r) d (d - r)
 
@@ -60,4 +65,9 @@ sketch_next odd N s = cond odd (odd_next N s) (even_next N s)
 
 -- the search, from where it begins
 abbrev pub sketch_walk : Walking Sketch
-sketch_walk = record { first = λ s. sketch_of (first_state s.unit s.step s.start s.count) true; done = λ k. k.done; next = sketch_next }
+sketch_walk =
+    record {
+      first = λ s. sketch_of (first_state s.unit s.step s.start s.count) true;
+      done = λ k. k.done;
+      next = sketch_next;
+    }

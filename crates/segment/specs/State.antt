@@ -1,5 +1,6 @@
--- The steps of the searches as functions of numbers, for the contracts of the functions that take them, and where a search stands after so many steps.
--- specs/Promise.antt says what the steps are for. Assumes nothing: these are definitions.
+-- The steps of the searches as functions of numbers, for the contracts of the functions that take
+-- them, and where a search stands after so many steps. specs/Promise.antt says what the steps are
+-- for. Assumes nothing: these are definitions.
 use Rattle.std.specs.Prelude.{◌≡◌, Bool, true, false, ◌||◌, cond, ℕ, suc, ◌+◌, ◌-◌, ◌*◌, ◌/◌, ◌^◌, ◌≤◌, ◌<◌, min, eqb, leb, ltb}
 use Rattle.expansion.specs.Reached.{Search}
 use Rattle.expansion.specs.Reached.Search.{regular, fine}
@@ -34,11 +35,13 @@ first_state M a b N =
 abbrev pub quotient : State → ℕ
 quotient s = s.long / s.short
 
--- how often the long gaps can be cut with something left: as often, or once less where that would leave nothing
+-- how often the long gaps can be cut with something left: as often, or once less where that would
+-- leave nothing
 abbrev pub all_cuts : State → ℕ
 all_cuts s = (s.long - 1) / s.short
 
--- how often they are cut where N points are reached: a cut of all makes as many points as there are long gaps
+-- how often they are cut where N points are reached: a cut of all makes as many points as there are
+-- long gaps
 abbrev pub cuts_to : (N : ℕ) → State → ℕ
 cuts_to N s = (N - s.shorts - 1) / s.longs
 
@@ -134,7 +137,8 @@ in_next_row done s =
       done = done;
     }
 
--- whether a search ends with all cuts of a row: they reach N points, or they leave gaps of one length, as many as the period
+-- whether a search ends with all cuts of a row: they reach N points, or they leave gaps of one
+-- length, as many as the period
 unfoldable pub ends : (N : ℕ) → State → Bool
 ends N s = leb N (s.shorts + all_cuts s * s.longs + s.longs) || eqb s.short (s.long - all_cuts s * s.short)
 
@@ -157,7 +161,8 @@ finished whole s =
       done = true;
     }
 
--- the fine step: all cuts of a row where the search goes on after it, else those that reach N, at most all
+-- the fine step: all cuts of a row where the search goes on after it, else those that reach N, at
+-- most all
 unfoldable pub fine_next : (odd : Bool) → (N : ℕ) → State → State
 fine_next odd N s =
     cond (ends N s) (finished (eqb (last_cuts N s) (quotient s)) (cut_state odd (last_cuts N s) s)) (regular_next odd N s)
@@ -171,7 +176,12 @@ next fine odd N s = fine_next odd N s
 
 -- the search, from where it begins
 abbrev pub walk_of : Search → Walking State
-walk_of k = record { first = λ s. first_state s.unit s.step s.start s.count; done = λ t. t.done; next = next k }
+walk_of k =
+    record {
+      first = λ s. first_state s.unit s.step s.start s.count;
+      done = λ t. t.done;
+      next = next k;
+    }
 
 -- where a search stands after so many steps
 abbrev pub state_after : Search → Segment → (steps : ℕ) → State

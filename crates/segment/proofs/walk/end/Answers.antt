@@ -12,7 +12,11 @@ returns-then-is_done g c =
 
 pub loop-init : goal.loop-init
 unfolding after
-loop-init g c = record { is = c.first-state.ensures; on = sym c.is_done.ensures ∙ c.if-is_done.false }
+loop-init g c =
+    record {
+      is = c.first-state.ensures;
+      on = sym c.is_done.ensures ∙ c.if-is_done.false;
+    }
 
 pub even_row-state-requires : goal.even_row-state-requires
 even_row-state-requires g c = row_able c.requires c.loop.invariant

@@ -6,4 +6,5 @@ use Rattle.segment.proofs.Walks.{At}
 use Rattle.segment.proofs.walk.end.Given as goal
 
 abbrev pub invariant-loop : goal.invariant-loop
-invariant-loop g l = At g.W.Walk.walk (asked l.modulus l.step l.start l.count 1) (l.counter + l.counter) l.state
+invariant-loop g l =
+    At g.W.Walk.walk (asked l.modulus l.step l.start l.count 1) (l.counter + l.counter) l.state

@@ -1,5 +1,5 @@
--- `segment::state::CutRow::advance_all_left` meets its contract: the moves are no more than the cuts,
--- and fit with them. Assumes nothing.
+-- `segment::state::CutRow::advance_all_left` meets its contract: the moves are no more than the
+-- cuts, and fit with them. Assumes nothing.
 use Rattle.std.proofs.Common.{arith}
 use native.Mathlib.Nat.{mul-le-mul_right}
 use Rattle.segment.proofs.Advancing.{moved_left, moves_few}

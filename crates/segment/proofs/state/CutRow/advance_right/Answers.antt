@@ -8,7 +8,8 @@ returns-then-state c = rw c.nearest.ensures (search (short_gap, rules))
 
 pub returns-then-state-self : goal.returns-then-state-self
 returns-then-state-self c =
-    rw c.nearest-then-state-self.ensures (left_alone _ _ c.args.self.able.rest_is c.if-state-self.true)
+    rw c.nearest-then-state-self.ensures
+    (left_alone _ _ c.args.self.able.rest_is c.if-state-self.true)
 
 pub returns : goal.returns
 returns c =
