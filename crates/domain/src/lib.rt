@@ -73,7 +73,7 @@ pub fn scan_segment(segment: Segment, list: &mut [u64], values: &mut [u64]) -> R
         list_all(line.within, list, values);
         return Ok(listed);
     }
-    line.list_hard(listed, list, values, 0);
+    line.list_hard(listed, list, values);
     Ok(listed)
 }
 

@@ -122,25 +122,25 @@ impl Scan {
     {
         let mut place: usize = 0;
         for (i, &number) in hard.iter().enumerate() {
-            self.list_part(i as u64, number, list, values, place);
+            self.list_part(i as u64, number, &mut list[place..], &mut values[place..]);
             place += number as usize;
         }
     }
 
     // A part without hard arguments has nothing to list, and is not made.
-    fn list_part(self, i: u64, number: u32, list: &mut [u64], values: &mut [u64], place: usize)
+    fn list_part(self, i: u64, number: u32, list: &mut [u64], values: &mut [u64])
         requires is_part { i < 8 }
         requires number_counted { number ≡ length (hard_list (part (scanned self) i)) }
-        requires list_room { place + number ≤ length list.old }
-        requires values_room { place + number ≤ length values.old }
-        ensures list_after { list.new ≡ sets list.old place
+        requires list_room { number ≤ length list.old }
+        requires values_room { number ≤ length values.old }
+        ensures list_after { list.new ≡ sets list.old 0
             (listed_from (self.begin + part_start self.within.arc.count i) (part (scanned self) i)) }
-        ensures values_after { values.new ≡ sets values.old place
+        ensures values_after { values.new ≡ sets values.old 0
             (lowered_values self.raise (part (scanned self) i)) }
     {
         if number == 0 {
             return;
         }
-        self.part(i).list_hard(number, list, values, place);
+        self.part(i).list_hard(number, list, values);
     }
 }

@@ -69,7 +69,7 @@ impl Scan {
             slope: arc.slope,
         };
         let mut number: u32 = 0;
-        for x in 0..arc.count {
+        for _x in 0..arc.count {
             number += (point.value <= arc.highest) as u32;
             point = next(point, second, arc.modulus);
         }
@@ -79,12 +79,12 @@ impl Scan {
     // Writes the hard arguments, of which there are `number`, into the list from a place on, and
     // beside each its value. It ends with the last of them. The next value is formed before this
     // one is written, so that the sum and the writes overlap.
-    pub(crate) fn list_hard(self, number: u32, list: &mut [u64], values: &mut [u64], place: usize)
+    pub(crate) fn list_hard(self, number: u32, list: &mut [u64], values: &mut [u64])
         requires number_counted { number ≡ length (hard_list (scanned self)) }
-        requires list_room { place + number ≤ length list.old }
-        requires values_room { place + number ≤ length values.old }
-        ensures list_after { list.new ≡ sets list.old place (arguments_of self) }
-        ensures values_after { values.new ≡ sets values.old place (values_of self) }
+        requires list_room { number ≤ length list.old }
+        requires values_room { number ≤ length values.old }
+        ensures list_after { list.new ≡ sets list.old 0 (arguments_of self) }
+        ensures values_after { values.new ≡ sets values.old 0 (values_of self) }
     {
         let arc = self.within.arc;
         let second = remainder(arc.curve, arc.modulus);
@@ -92,8 +92,8 @@ impl Scan {
             value: arc.value,
             slope: arc.slope,
         };
-        let end = place + number as usize;
-        let mut at = place;
+        let end = number as usize;
+        let mut at: usize = 0;
         let mut x = self.begin;
         while at < end {
             let value = point.value;
