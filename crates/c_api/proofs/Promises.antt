@@ -1,10 +1,12 @@
 -- What is promised of the C functions. Assumes nothing.
-use Rattle.std.proofs.Common.{◌≡◌, ◌↔◌, ℕ, zero, suc, List, length, Result, Ok, Err, refl, sym, ap, ◌∙◌, arith}
-use Rattle.numbers.specs.Refusals.{number_in}
+use Rattle.std.proofs.Common.{◌≡◌, ◌↔◌, ℕ, suc, ◌*◌, ◌%◌, List, length, Result, Ok, Err, IsOkAnd, ◌<◌, refl, sym, ap, ◌∙◌, arith}
+use Rattle.numbers.specs.Checklist.{Check, conditions, first_failing, AllHold, RefusedBy, unless_refused}
+use Rattle.numbers.specs.Refusals.{named, IsNamed, outcome, number_in}
 use Rattle.numbers.specs.declared.refusals.Refusal.{Refusal}
 use Rattle.numbers.proofs.Equivalences.{through}
-use Rattle.numbers.proofs.Checklists.{accepts, refuses, unrefused_new, refused_old}
-use Rattle.numbers.proofs.Outcomes.{failing_number}
+use Rattle.numbers.proofs.Checklists.{AllNumbers, accepts, refuses, unrefused_new, refused_old}
+use Rattle.numbers.proofs.Outcomes.{failing_number, all_numbered, number_positive}
+use Rattle.expansion.specs.Rows.{period}
 use Rattle.expansion.specs.Answer.{answer}
 use Rattle.expansion.specs.declared.Table.{Table}
 use Rattle.ostrowski.proofs.Promises as ostrowski
@@ -12,11 +14,9 @@ use Rattle.ostrowski.specs.Answer.{argument_checks, target_checks, argument_refu
 use Rattle.geometry.specs.Segment.{Segment, segment}
 use Rattle.segment.specs.Accepted as segments
 use Rattle.segment.specs.Answer.{regular_answer, fine_answer}
-use Rattle.parabola.specs.Parabola.{Parabola}
-use Rattle.domain.specs.Domain.{centred_of}
 use Rattle.domain.specs.declared.Domain.{Domain}
-use Rattle.domain.specs.Answer.{domain_checks, domain_number, domain_answer, marks_of, marks_after, list_after, values_after, scan_checks, scan_number, scan_answer, scan_list_after, scan_values_after}
-use Rattle.c_api.specs.Memory.{handed, Delivered, digits_memory, count_memory, number_memory, verdict_number, regular_memory, fine_memory, scan_memory, domain_memory}
+use Rattle.domain.specs.Answer.{domain_checks, domain_number, domain_answer, marks_after, list_after, values_after, scan_checks, scan_number, scan_answer, scan_list_after, scan_values_after}
+use Rattle.c_api.specs.Memory.{handed, Delivered, number_memory, verdict_number, marks_memory}
 use Rattle.c_api.specs.Promise.{Promised}
 use Rattle.c_api.proofs.Memory.{unchanged}
 
@@ -32,47 +32,95 @@ delivered r {n} {k} {old} {new} {table} z t = (
       record { returned = h.0 ∙ sym z; left = same ∙ sym t },
 )
 
+-- ---- an answer by a checklist
+
+-- its number is 0 exactly where all holds that is asked, and another one exactly where that number refuses
+module _ {A : Type 0} (cs : List Check) (shown : A) (all : AllNumbers IsNamed (conditions cs)) where
+  by_zero : (number_in (outcome (first_failing cs) shown) ≡ 0) ↔ AllHold (conditions cs)
+  by_zero = through (failing_number cs shown all) (accepts cs (all_numbered (conditions cs) all))
+
+  by_number : (n : ℕ) → (number_in (outcome (first_failing cs) shown) ≡ suc n) ↔ RefusedBy (conditions cs) (suc n)
+  by_number n = through (failing_number cs shown all) (refuses cs n)
+
+-- what is there stays where the answer has a number
+kept : (cs : List Check) {A B : Type 0} (shown : A) (new old : B) {n : ℕ} → AllNumbers IsNamed (conditions cs)
+    → number_in (outcome (first_failing cs) shown) ≡ suc n → unless_refused (first_failing cs) new old ≡ old
+kept cs shown new old all e = refused_old (first_failing cs) new old (λ z. omega (arith, z, sym (failing_number cs shown all) ∙ e))
+
+-- what holds of a number that is shown holds of what the memory has then
+left_holds : (r : Result ℕ Refusal) (P : ℕ → Type 0) (old : ℕ) → IsOkAnd r P → P (number_memory r old)
+left_holds (Ok y) P old h = h
+left_holds (Err e) P old h = absurd h
+
+-- what is the same for every answer is there where an answer has no number
+handed_alike : {A B : Type 0} (over : B) (r : Result A Refusal) (old : B) → number_in r ≡ 0 → handed (λ (a : A). over) r old ≡ over
+handed_alike over (Ok a) old e = refl
+handed_alike over (Err r) old e = absurd (omega (arith, e, number_positive r))
+
+-- the numbers of each call's checklist are those of refusals
+arguments_named : (M a x : ℕ) → AllNumbers IsNamed (conditions (argument_checks M a x))
+unfolding named
+arguments_named M a x = (refl, (refl, (refl, tt)))
+
+targets_named : (M a t : ℕ) → AllNumbers IsNamed (conditions (target_checks M a t))
+unfolding named
+targets_named M a t = (refl, (refl, (refl, tt)))
+
+segments_named : (s : Segment) → AllNumbers IsNamed (conditions (segments.checks s))
+unfolding named
+segments_named s = (refl, (refl, (refl, (refl, (refl, tt)))))
+
+scans_named : (s : Segment) (m n : ℕ) → AllNumbers IsNamed (conditions (scan_checks s m n))
+unfolding named
+scans_named s m n = (refl, (refl, (refl, (refl, (refl, (refl, tt))))))
+
+domains_named : (d : Domain) (m n : ℕ) → AllNumbers IsNamed (conditions (domain_checks d m n))
+unfolding named
+domains_named d m n = (refl, (refl, (refl, (refl, (refl, (refl, (refl, (refl, tt))))))))
+
 pub promised : Promised
-unfolding verdict_number digits_memory count_memory number_memory residue_answer divide_answer argument_refusal target_refusal regular_memory fine_memory scan_memory domain_memory regular_answer fine_answer scan_answer domain_answer segments.refusal scan_number domain_number
+unfolding verdict_number residue_answer divide_answer argument_refusal target_refusal regular_answer fine_answer scan_answer domain_answer segments.refusal scan_number domain_number scan_list_after scan_values_after marks_memory list_after values_after
 promised =
     record {
-      expand_numbers = λ M a n m m' us qs ks us' qs' ks' z. delivered (answer M a) z (unrefused_new _ _ z);
-      expand_unchanged = λ M a n k m m' us qs ks us' qs' ks' z. delivered (answer M a) z (refused_old _ _ _ (λ y. omega (arith, y, z)));
-      digits_unchanged = λ M a x n k old e.
-          let z : (digits_answer M a x).refusal ≡ 0 → ⊥ = λ y. omega (arith, y, e) in (refused_old _ _ old z, refused_old _ _ k z);
-      digits_numbers = λ M a x k old e. (unrefused_new _ old e, unrefused_new _ k e);
-      residue_accepted = λ M a x. through (number_is _ _) (accepts (argument_checks M a x) (omega arith));
-      residue_refused = λ M a x n. through (number_is _ _) (refuses (argument_checks M a x) n);
-      divide_accepted = λ M a t. through (number_is _ _) (accepts (target_checks M a t) (omega arith));
-      divide_refused = λ M a t n. through (number_is _ _) (refuses (target_checks M a t) n);
-      residue_unchanged = λ M a x n old e. number_unchanged _ old e;
-      residue_left = λ M a x old h.
-          number_left old ((((ostrowski.promised).residue_answers M a x).found _).1 (h, refl));
-      divide_unchanged = λ M a t n old e. number_unchanged _ old e;
-      divide_left = λ M a t old h.
-          let d = (ostrowski.promised).divide_answers M a t in
-          let s = d.shown h in
-          rw (number_left old ((d.found _).1 (h, (s.1, s.2)))) (s.1, s.2);
+      expand_numbers = λ M a n m m' us qs ks us' qs' ks' t e. delivered (answer M a) (ap number_in e) (rw e refl);
+      expand_unchanged = λ M a n k m m' us qs ks us' qs' ks' z. delivered (answer M a) z (unchanged (λ t. t) (answer M a) _ z);
+      digits_unchanged = λ M a x n k old e. (unchanged _ (digits_answer M a x) old e, unchanged _ (digits_answer M a x) k e);
+      digits_numbers = λ M a x k old d e. rw e (refl, refl);
+      residue_accepted = λ M a x. by_zero (argument_checks M a x) _ (arguments_named M a x);
+      residue_refused = λ M a x. by_number (argument_checks M a x) _ (arguments_named M a x);
+      divide_accepted = λ M a t. by_zero (target_checks M a t) _ (targets_named M a t);
+      divide_refused = λ M a t. by_number (target_checks M a t) _ (targets_named M a t);
+      residue_unchanged = λ M a x n old e. unchanged _ _ old e;
+      residue_left = λ M a x old h. let d = ((ostrowski.promised).residue_answers M a x).found (a * x % M) in rw (d.1 (h, refl)) refl;
+      divide_unchanged = λ M a t n old e. unchanged _ _ old e;
+      divide_left = λ M a t old h. left_holds _ (λ x. (x < period M a) × (a * x % M ≡ t)) old (((ostrowski.promised).divide_answers M a t).shown h).1;
       clear_is_1 = refl;
       possible_is_0 = refl;
-      regular_accepted = λ M a b N w. through (regular_number (segment M a b N w) _) (accepts (segments.checks (segment M a b N w)) (omega arith));
-      regular_refused = λ M a b N w n. through (regular_number (segment M a b N w) _) (refuses (segments.checks (segment M a b N w)) n);
-      regular_unchanged = regular_unchanged;
+      regular_accepted = λ M a b N w. by_zero (segments.checks (segment M a b N w)) _ (segments_named (segment M a b N w));
+      regular_refused = λ M a b N w. by_number (segments.checks (segment M a b N w)) _ (segments_named (segment M a b N w));
+      regular_unchanged = λ M a b N w n old e. unchanged _ _ old e;
       regular_numbers = λ r old. refl;
-      fine_accepted = λ M a b N w. through (fine_number (segment M a b N w) _) (accepts (segments.checks (segment M a b N w)) (omega arith));
-      fine_refused = λ M a b N w n. through (fine_number (segment M a b N w) _) (refuses (segments.checks (segment M a b N w)) n);
-      fine_unchanged = fine_unchanged;
+      fine_accepted = λ M a b N w. by_zero (segments.checks (segment M a b N w)) _ (segments_named (segment M a b N w));
+      fine_refused = λ M a b N w. by_number (segments.checks (segment M a b N w)) _ (segments_named (segment M a b N w));
+      fine_unchanged = λ M a b N w n old e. unchanged _ _ old e;
       fine_numbers = λ f old. refl;
       scan_accepted = λ M a b N w list values.
-          through (scan_number_is (segment M a b N w) _) (accepts (scan_checks (segment M a b N w) (length list) (length values)) (omega arith));
+          by_zero (scan_checks (segment M a b N w) (length list) (length values)) _ (scans_named (segment M a b N w) (length list) (length values));
       scan_refused = λ M a b N w n list values.
-          through (scan_number_is (segment M a b N w) _) (refuses (scan_checks (segment M a b N w) (length list) (length values)) n);
-      scan_unchanged = scan_unchanged;
+          by_number (scan_checks (segment M a b N w) (length list) (length values)) _ (scans_named (segment M a b N w) (length list) (length values)) n;
+      scan_unchanged = λ M a b N w n list values old e.
+          let s = segment M a b N w in
+          let all = scans_named s (length list) (length values) in
+          let cs = scan_checks s (length list) (length values) in
+          (unchanged _ _ old e, kept cs _ _ list all e, kept cs _ _ values all e);
       scan_number = λ n old. refl;
       domain_is = λ o M c0 c1 s N w. refl;
-      domain_accepted = λ d list values. through (domain_number_is (centred_of d) _) (accepts (domain_checks d (length list) (length values)) (omega arith));
-      domain_refused = λ d n list values. through (domain_number_is (centred_of d) _) (refuses (domain_checks d (length list) (length values)) n);
-      domain_unchanged = domain_unchanged;
-      domain_marks = domain_marks;
+      domain_accepted = λ d list values. by_zero (domain_checks d (length list) (length values)) _ (domains_named d (length list) (length values));
+      domain_refused = λ d n list values. by_number (domain_checks d (length list) (length values)) _ (domains_named d (length list) (length values)) n;
+      domain_unchanged = λ d n marks list values searched e.
+          let all = domains_named d (length list) (length values) in
+          let cs = domain_checks d (length list) (length values) in
+          (unchanged _ _ marks e, kept cs _ _ list all e, kept cs _ _ values all e, unchanged _ _ searched e);
+      domain_marks = λ d marks list values e. handed_alike _ (domain_answer d (length list) (length values)) marks e;
       domain_numbers = λ v n searched. refl;
     }

@@ -8,9 +8,12 @@ ghost use Rattle.numbers.specs.Refusals.{number_in};
 ghost use Rattle.expansion.specs.Answer.{answer};
 ghost use Rattle.ostrowski.specs.Answer.{digits_answer, residue_answer, divide_answer};
 ghost use Rattle.segment.specs.Answer.{regular_answer, fine_answer};
-ghost use Rattle.domain.specs.Answer.{scan_answer, scan_list_after, scan_values_after, domain_answer, marks_after, list_after, values_after};
+ghost use Rattle.domain.specs.Answer.{scan_answer, scan_list_after, scan_values_after, domain_answer, list_after, values_after};
+ghost use Rattle.domain.specs.Marks.{mark_number, mark_numbers};
 ghost use Rattle.range.specs.Range.{start_of, count_of};
-ghost use Rattle.c_api.specs.Memory.{memory, Delivered, digits_memory, count_memory, number_memory, verdict_number, regular_memory, fine_memory, scan_memory, domain_of, domain_memory};
+ghost use Rattle.c_api.specs.Memory.{memory, Delivered, digits_memory, count_memory, number_memory, verdict_number, regular_memory, fine_memory, scan_memory, domain_of, domain_memory, marks_memory};
+
+use domain::Mark;
 
 // expansion::expand: returns 0 or the refusal. The table's columns and its last row's index are left as they were on a refusal.
 #[unsafe(no_mangle)]
@@ -29,9 +32,12 @@ pub extern "C" fn geyserdish_expand(
     match expansion::expand(modulus, step) {
         Err(refusal) => u32::from(refusal),
         Ok(table) => {
-            *remainders = table.remainders;
-            *denominators = table.denominators;
-            *quotients = table.quotients;
+            let r = table.remainders;
+            *remainders = r;
+            let d = table.denominators;
+            *denominators = d;
+            let q = table.quotients;
+            *quotients = q;
             *last = table.last as u64;
             0
         }
@@ -54,7 +60,8 @@ pub extern "C" fn geyserdish_digits(
     match ostrowski::digits(modulus, step, argument) {
         Err(refusal) => u32::from(refusal),
         Ok(found) => {
-            *digits = found.digits;
+            let d = found.digits;
+            *digits = d;
             *count = found.count as u64;
             0
         }
@@ -186,7 +193,14 @@ pub extern "C" fn geyserdish_scan_segment(
     ensures values_after { values.new ≡ scan_values_after modulus step start count window (length list.old) values.old }
     ensures listed_after { listed.new ≡ scan_memory (scan_answer modulus step start count window (length list.old) (length values.old)) listed.old }
 {
-    match domain::scan_segment(modulus, step, start, count, window, list, values) {
+    let segment = segment::Segment {
+        modulus,
+        step,
+        start,
+        count,
+        window,
+    };
+    match domain::scan_segment(segment, list, values) {
         Err(refusal) => u32::from(refusal),
         Ok(number) => {
             *listed = number as u64;
@@ -215,7 +229,7 @@ pub extern "C" fn geyserdish_search_domain(
     ensures returned { result ≡ number_in (domain_answer (domain_of origin modulus value slope curve count window) (length list.old) (length values.old)) }
     ensures list_after { list.new ≡ list_after (domain_of origin modulus value slope curve count window) (length values.old) list.old }
     ensures values_after { values.new ≡ values_after (domain_of origin modulus value slope curve count window) (length list.old) values.old }
-    ensures marks_after { marks.new ≡ marks_after (domain_of origin modulus value slope curve count window) (length list.old) (length values.old) marks.old }
+    ensures marks_after { marks.new ≡ marks_memory (domain_of origin modulus value slope curve count window) (length list.old) (length values.old) marks.old }
     ensures searched_after { searched.new ≡ domain_memory (domain_answer (domain_of origin modulus value slope curve count window) (length list.old) (length values.old)) searched.old }
 {
     let domain = domain::Domain {
@@ -227,9 +241,11 @@ pub extern "C" fn geyserdish_search_domain(
         count,
         window,
     };
-    match domain::search_domain(domain, marks, list, values) {
+    let mut seen = [Mark::Unseen; 8];
+    match domain::search_domain(domain, &mut seen, list, values) {
         Err(refusal) => u32::from(refusal),
         Ok(found) => {
+            *marks = numbers_of(seen);
             *searched = [number_of(found.first), found.listed as u64];
             0
         }
@@ -248,6 +264,14 @@ pub extern "C" fn geyserdish_range(list: &[u64], lo: u64, hi: u64, start: &mut u
     part.len() as u64
 }
 
+// Marks by their numbers, as C has them.
+fn numbers_of(marks: [Mark; 8]) -> [u8; 8]
+    ensures { result ≡ mark_numbers marks }
+{
+    marks.map(|mark| -> u8 ensures { result ≡ mark_number mark } { u8::from(mark) })
+}
+
+// Clear is 1 in C, and possible 0.
 fn number_of(verdict: segment::Verdict) -> u64
     ensures { result ≡ verdict_number verdict }
 {

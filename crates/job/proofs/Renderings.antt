@@ -105,18 +105,20 @@ module _ (t : List ℕ) (d : Domain) where
       (at + length piece, record { text = e ∙ ap (line name written) (sym after); within = within }, after)
 
   -- where a field's line stands and a job is read from its end on, the job is read from the field on
+  then_read : {A R : Type 0} (name written rest : List ℕ) (at : ℕ) (n : A) (found : Option (A × ℕ)) (next : A → ℕ → Option Domain)
+      → ((end : ℕ) → (found ≡ Some (n, end)) ↔ (R × LineAt name written t at end)) → R → drop at t ≡ line name written rest
+      → ((end : ℕ) → drop end t ≡ rest → next n end ≡ Some d) → after_field found next ≡ Some d
+  then_read name written rest at n found next stands h e then =
+      let r = line_stands name written rest at e in rw ((stands r.0).1 (h, r.1)) (then r.0 r.2)
+
   field_next : (name rest : List ℕ) (at n : ℕ) (next : ℕ → ℕ → Option Domain) → n < 2 ^ 64 → drop at t ≡ line name (decimal n) rest
       → ((end : ℕ) → drop end t ≡ rest → next n end ≡ Some d) → after_field (field_at name at t) next ≡ Some d
-  field_next name rest at n next h e then =
-      let r = line_stands name (decimal n) rest at e in
-      ap (λ (f : Option (ℕ × ℕ)). after_field f next) (((promised.fields name t at).read n r.0).1 (h, r.1)) ∙ then r.0 r.2
+  field_next name rest at n next = then_read name (decimal n) rest at n (field_at name at t) next ((promised.fields name t at).read n)
 
   signed_next : (name rest : List ℕ) (at : ℕ) (s : ℤ) (next : ℤ → ℕ → Option Domain) → nat_abs s < 2 ^ 63
       → drop at t ≡ line name (signed_decimal s) rest → ((end : ℕ) → drop end t ≡ rest → next s end ≡ Some d)
       → after_field (signed_field_at name at t) next ≡ Some d
-  signed_next name rest at s next h e then =
-      let r = line_stands name (signed_decimal s) rest at e in
-      ap (λ (f : Option (ℤ × ℕ)). after_field f next) (((promised.fields name t at).signed_read s r.0).1 (h, r.1)) ∙ then r.0 r.2
+  signed_next name rest at s next = then_read name (signed_decimal s) rest at s (signed_field_at name at t) next ((promised.fields name t at).signed_read s)
 
   ends_there : (end : ℕ) → drop end t ≡ [] → from_end d end ≡ Some d
   ends_there end e = rw (le-ltb end (length t) (omega (arith, ap length e, length-drop end t)))

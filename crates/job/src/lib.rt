@@ -1,15 +1,16 @@
 // The text of a job: read strictly, run, and its answer printed; bytes in, bytes out.
 //
 // A job names a domain on seven lines in fixed order, origin=, modulus=, value=, slope=, curve=,
-// count= and window=, each with a decimal number and a line feed; the first line may be left out, and
-// the origin is 0 then. All else is refused by 8, before all other refusals.
+// count= and window=, each with a decimal number and a line feed; the first line may be left out,
+// and the origin is 0 then. All else is refused by 8, before all other refusals.
 #![tactic(auto)]
 
 ghost use Rattle.std.specs.Prelude.{◌≡◌, length};
 ghost use Rattle.numbers.specs.Lists.{overwrite_front};
 ghost use Rattle.text.specs.Writing.{Wrote};
 ghost use Rattle.job.specs.Reading.{lines_from, reading};
-ghost use Rattle.job.specs.Output.{job_answer, job_marks, job_list, job_values, output_with, output_of, longest};
+ghost use Rattle.job.specs.Output.{job_answer, job_marks, job_list, job_values};
+ghost use Rattle.job.specs.Output.{output_with, output_of, longest};
 
 mod report;
 
@@ -20,9 +21,9 @@ use text::Writer;
 // The longest answer: 4,096 arguments of sixteen digits with values of nineteen.
 pub const LONGEST: usize = 213034;
 
-// Reads a job, where the text is one: no space, no sign but a minus before a curve that is not 0, no
-// leading zero but in 0 itself, numbers below 2^64, a curve's size below 2^63, nothing after the line
-// feed of the window. Without the line of the origin the text begins with that of the modulus.
+// Reads a job, where the text is one: no space, no sign but a minus before a curve that is not 0,
+// no leading zero but in 0 itself, numbers below 2^64, a curve's size below 2^63, nothing after the
+// line feed of the window. Without the line of the origin the text begins with that of the modulus.
 #[tactic(auto, unfolding(crate::specs::Reading::reading))]
 pub fn read_job(text: &[u8]) -> Option<Domain>
     ensures { result ≡ reading text.now }
@@ -88,7 +89,8 @@ fn print_answer(job: Option<Domain>, out: &mut Writer)
     }
 }
 
-// Searches the domain of a job. A text that is none is refused by 8, and leaves marks, list and values as they were.
+// Searches the domain of a job. A text that is none is refused by 8, and leaves marks, list and
+// values as they were.
 fn search(
     job: Option<Domain>,
     marks: &mut [u8; 8],

@@ -37,7 +37,7 @@ pub fn digits(modulus: u64, step: u64, argument: u64) -> Result<Numeral, Refusal
     for row in (0..last).rev() {
         let denominator = denominators[row];
         digits[row] = rest / denominator;
-        rest = rest % denominator;
+        rest %= denominator;
     }
     Ok(Numeral {
         digits,
@@ -64,7 +64,7 @@ pub fn residue(modulus: u64, step: u64, argument: u64) -> Result<u64, Refusal>
     for row in (0..last).rev() {
         let denominator = denominators[row];
         let term = rest / denominator * remainders[row];
-        rest = rest % denominator;
+        rest %= denominator;
         residue = numbers::subtract(term, residue, modulus);
     }
     Ok(residue)
@@ -83,25 +83,18 @@ pub fn divide(modulus: u64, step: u64, target: u64) -> Result<u64, Refusal>
     if modulus <= target {
         return Err(Refusal::Target);
     }
-    let mut before = modulus;
-    let mut remainder = step;
-    let mut denominator_before: u64 = 0;
-    let mut denominator: u64 = 1;
+    let (mut before, mut remainder) = (modulus, step);
+    let (mut denominator_before, mut denominator) = (0, 1);
+    let (mut same, mut other) = (0, 0);
     let mut rest = target;
-    let mut same: u64 = 0;
-    let mut other: u64 = 0;
     let mut is_odd = false;
     while remainder != 0 {
         let next = denominator_before + before / remainder * denominator;
         let joined = same + rest / remainder * denominator;
-        let left = before % remainder;
-        rest = rest % remainder;
-        before = remainder;
-        remainder = left;
-        denominator_before = denominator;
-        denominator = next;
-        same = other;
-        other = joined;
+        rest %= remainder;
+        (before, remainder) = (remainder, before % remainder);
+        (denominator_before, denominator) = (denominator, next);
+        (same, other) = (other, joined);
         is_odd = !is_odd;
     }
     if rest != 0 {

@@ -62,6 +62,7 @@ pub apart : Clear ≡ Possible → ⊥
 apart e = let z : ◌≡◌ {A = ℕ} 0 1 = cc in omega arith
 
 pub verdict_iff : (d w : ℕ) → ((verdict_at d w ≡ Clear) ↔ (w ≤ d)) × ((verdict_at d w ≡ Possible) ↔ (d < w))
+unfolding verdict_at
 verdict_iff d w =
     by_cases (dec_le w d)
     (λ h. rw (le-leb w d h) ((λ _. h, λ _. refl), (λ e. absurd (apart e), λ l. absurd (omega arith))))

@@ -29,8 +29,8 @@ use Rattle.segment.proofs.Walks.{step_is, stays, done_29}
 
 -- it keeps the invariant
 kept : (k : Search) {s : Segment} {odd : Bool} {t : State} → Running k s odd t → SearchInvariant k s (not odd) (next k odd s.count t)
-kept regular r = regular_step r refl
-kept fine r = fine_step r refl
+kept regular r = regular_step r
+kept fine r = fine_step r
 
 -- makes more points
 grows : (k : Search) {s : Segment} {odd : Bool} {t : State} → Running k s odd t → points t < points (next k odd s.count t)
@@ -39,8 +39,8 @@ grows fine r = fine_grows r
 
 -- and draws a quotient, if the search goes on after it
 draws : (k : Search) (odd : Bool) (N : ℕ) (t : State) → (next k odd N t).done ≡ false → (next k odd N t).index ≡ suc t.index
-draws regular odd N t d = regular_index odd N t refl
-draws fine odd N t d = fine_index odd N t refl d
+draws regular odd N t d = regular_index odd N t
+draws fine odd N t d = fine_index odd N t d
 
 -- ---- one after another
 
@@ -132,4 +132,4 @@ module _ (k : Search) {s : Segment} (a : Accepted s) where
     where
       -- the regular step always draws one
       always : k ≡ regular → (odd : Bool) (N : ℕ) (t : State) → (next k odd N t).index ≡ suc t.index
-      always q odd N t = rw q (regular_index odd N t refl)
+      always q odd N t = rw q (regular_index odd N t)

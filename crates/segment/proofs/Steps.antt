@@ -116,20 +116,20 @@ module _ {k : Search} {s : Segment} {odd : Bool} {t : State} (r : Running k s od
 
 -- ---- the regular search
 
-pub regular_step : {s : Segment} {odd : Bool} {t t' : State} → Running regular s odd t → t' ≡ regular_next odd s.count t
-    → SearchInvariant regular s (not odd) t'
+pub regular_step : {s : Segment} {odd : Bool} {t : State} → Running regular s odd t
+    → SearchInvariant regular s (not odd) (regular_next odd s.count t)
 unfolding regular_next cut_state
-regular_step {s} {odd} {t} r e =
+regular_step {s} {odd} {t} r =
     let on : (n : ℕ) → points t < n → reached regular s.unit s.step n ≡ after_row regular n t
     = λ n l. r.to_go n (le_of_lt l) ∙ regular_on _ _ _ _ _ _ r.falls (positive r) l in
-    rw e (record {
+    record {
       ended = λ e. ended_at _ (turned (all_holds r)) (⊎_elim
           (λ z. go_here r ∙ regular_period _ _ _ _ _ _ r.falls (positive r) r.below z
           ∙ relabelled (omega (arith, ap (λ (n : ℕ). n * t.longs) (cuts_exact t (positive r) (falls r) z))) refl refl)
           (λ h. next_reached r h (on s.count r.below) e)
           (eq-zero-or-pos (t.long % t.short)));
       running = λ e. next_running r (leaves_some t (positive r) (falls r) s.count e) (λ n l. on n (omega (arith, all_grow r))) e;
-    })
+    }
 
 -- ---- the fine search
 
@@ -182,9 +182,9 @@ module _ {s : Segment} {odd : Bool} {t : State} (r : Running fine s odd t) where
       (eq-zero-or-pos (t.long % t.short)) in
       go_here r ∙ fine_part _ _ _ _ _ _ r.falls (positive r) cuts last.0 (λ _. before_below) last.1 ∙ relabelled (omega arith) (omega arith) refl
 
-  pub fine_step : {t' : State} → t' ≡ fine_next odd s.count t → SearchInvariant fine s (not odd) t'
+  pub fine_step : SearchInvariant fine s (not odd) (fine_next odd s.count t)
   unfolding fine_next
-  fine_step e = rw e (by (ends s.count t) refl)
+  fine_step = by (ends s.count t) refl
     where
       by : (b : Bool) → ends s.count t ≡ b → SearchInvariant fine s (not odd) (fine_next odd s.count t)
       by false e =
@@ -220,14 +220,15 @@ fine_grows {s} {odd} {t} r = by (ends s.count t) refl
 
 -- ---- the index: a step that does not end the search goes one row on
 
-pub regular_index : (odd : Bool) (N : ℕ) (t : State) {t' : State} → t' ≡ regular_next odd N t → t'.index ≡ suc t.index
+pub regular_index : (odd : Bool) (N : ℕ) (t : State) → (regular_next odd N t).index ≡ suc t.index
 unfolding regular_next cut_state
-regular_index odd N t e = rw e
+regular_index odd N t = refl
 
-pub fine_index : (odd : Bool) (N : ℕ) (t : State) {t' : State} → t' ≡ fine_next odd N t → t'.done ≡ false → t'.index ≡ suc t.index
+pub fine_index : (odd : Bool) (N : ℕ) (t : State) → (fine_next odd N t).done ≡ false
+    → (fine_next odd N t).index ≡ suc t.index
 unfolding fine_next
-fine_index odd N t e = rw e (by (ends N t) refl)
+fine_index odd N t = by (ends N t) refl
   where
     by : (b : Bool) → ends N t ≡ b → (fine_next odd N t).done ≡ false → (fine_next odd N t).index ≡ suc t.index
     by true e = rw e (λ d. absurd (false≢true (sym d)))
-    by false e = rw e (λ _. regular_index odd N t refl)
+    by false e = rw e (λ _. regular_index odd N t)

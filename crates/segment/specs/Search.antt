@@ -24,7 +24,7 @@ unfoldable pub distance : Search → Segment → ℕ
 distance k s = residue s (argument k s)
 
 -- clear where the distance is at least the window, else possible
-abbrev pub verdict_at : (distance window : ℕ) → Verdict
+unfoldable pub verdict_at : (distance window : ℕ) → Verdict
 verdict_at d w = cond (leb w d) Clear Possible
 
 -- the verdict of a search

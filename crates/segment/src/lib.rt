@@ -129,6 +129,7 @@ pub fn refuse(segment: Segment) -> Result<(), Refusal>
     Ok(())
 }
 
+#[tactic(auto, unfolding(crate::specs::Search::verdict_at))]
 fn judge(distance: u64, window: u64) -> Verdict
     ensures { result ≡ verdict_at distance window }
 {

@@ -215,6 +215,7 @@ impl CutRow {
 
     // Cuts from the left come between the point and the start one by one, as long as there is room
     // for a short length. In a short gap there is none.
+    #[tactic(auto, unfolding(crate::specs::State::advanced_left))]
     fn advance_left(self) -> Nearest
         ensures { result ≡ advanced_left self.cuts.number self.state }
     {
@@ -308,7 +309,8 @@ impl CutRow {
     }
 }
 
-// The regular search.
+// The regular search. The fine one beside it differs in its step alone; one impl for both would
+// need a parameter that says which, and a test of it in each row: no plainer.
 pub(crate) struct RegularWalk;
 
 impl Walk for RegularWalk {

@@ -20,7 +20,8 @@ pub(crate) trait Walk {
     // What a row asks of a state that is not done.
     ghost CanGoOn: { (count : ℕ) → Self.State → Type 0 };
 
-    // The window plays no part in a search; the contract has the least that is accepted.
+    // The window plays no part in a search; the contract has the least that is accepted. (As a
+    // struct, the four numbers would be a line each at every call of `end`: no plainer.)
     fn first(modulus: u64, step: u64, start: u64, count: u64) -> Self::State
         ensures { result ≡ walk.first (asked modulus step start count 1) };
 

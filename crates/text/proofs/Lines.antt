@@ -74,7 +74,7 @@ no_minus =
 
 module _ (t : List ℕ) (at : ℕ) where
   signed_read : {s : ℤ} {end : ℕ} → signed_from at t ≡ Some (s, end) → (nat_abs s < 2 ^ 63) × WrittenAt (signed_decimal s) t at end
-  unfolding signed_from signed_decimal
+  unfolding signed_decimal
   signed_read {s} {end} e =
       ⊎_elim (λ b. let u = unsigned_from (number_from at (drop at t)) (rw b at e) in rw u.2 (u.3, ((number_iff t at u.0 end).0 u.1).1))
       (λ b. let o = opposite_from (number_from (at + 1) (drop (at + 1) t)) (rw b at e) in
@@ -83,7 +83,7 @@ module _ (t : List ℕ) (at : ℕ) where
       (dichotomy (starts (bytes "-") (drop at t)))
 
   signed_reads : (s : ℤ) (end : ℕ) → (nat_abs s < 2 ^ 63) × WrittenAt (signed_decimal s) t at end → signed_from at t ≡ Some (s, end)
-  unfolding signed_from signed_decimal
+  unfolding signed_decimal
   signed_reads (pos n) end h =
       rw (h.1.text, no_minus n (10 ∷ drop end t), ← h.1.text, (number_iff t at n end).1 (omega (arith, h.0), h.1), lt-ltb n (2 ^ 63) h.0)
   signed_reads (negsuc n) end h =

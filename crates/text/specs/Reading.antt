@@ -46,7 +46,7 @@ opposite (Some (n, end)) =
 opposite None = None
 
 -- a number with or without a minus sign, and a line feed
-unfoldable pub signed_from : (at : ℕ) → (text : List ℕ) → Option (ℤ × ℕ)
+abbrev pub signed_from : (at : ℕ) → (text : List ℕ) → Option (ℤ × ℕ)
 signed_from at t =
     cond (starts (bytes "-") (drop at t)) (opposite (number_from (at + 1) (drop (at + 1) t))) (unsigned (number_from at (drop at t)))
 

@@ -24,7 +24,7 @@ pub fn field(text: &[u8], at: usize, name: &[u8]) -> Option<(u64, usize)>
 
 // The same with a signed number whose size is below 2^63: a minus sign before one that is not 0,
 // and no other sign.
-#[tactic(auto, using(crate::proofs::Names::minus_sign), unfolding(crate::specs::Reading::signed_field_at, crate::specs::Reading::signed_from))]
+#[tactic(auto, using(crate::proofs::Names::minus_sign), unfolding(crate::specs::Reading::signed_field_at))]
 pub fn signed_field(text: &[u8], at: usize, name: &[u8]) -> Option<(i64, usize)>
     ensures { result ≡ signed_field_at name.now at text.now }
 {

@@ -46,7 +46,7 @@ fn digits(rest: &[u8], at: usize, first: u64) -> Option<(u64, usize)>
 }
 
 // A number with one more digit: not after a zero in front, and not beyond 2^64 - 1.
-#[tactic(auto, using(std::proofs::lemmas::Bool::Decides::nat_tests), unfolding(crate::specs::Reading::takes_digit))]
+#[tactic(auto, unfolding(crate::specs::Reading::takes_digit))]
 fn with_digit(n: u64, x: u8) -> Option<u64>
     ensures { result ≡ (if takes_digit n x then Some (n * 10 + (x - 48)) else None) }
 {
@@ -57,7 +57,6 @@ fn with_digit(n: u64, x: u8) -> Option<u64>
 }
 
 // A number without a sign: a size below 2^63.
-#[tactic(auto, using(std::proofs::lemmas::Bool::Decides::nat_tests))]
 pub(crate) fn unsigned(size: (u64, usize)) -> Option<(i64, usize)>
     ensures { result ≡ unsigned (Some size) }
 {
@@ -66,7 +65,6 @@ pub(crate) fn unsigned(size: (u64, usize)) -> Option<(i64, usize)>
 }
 
 // A number after a minus sign: a size below 2^63 that is not 0.
-#[tactic(auto, using(std::proofs::lemmas::Bool::Decides::nat_tests))]
 pub(crate) fn opposite(size: (u64, usize)) -> Option<(i64, usize)>
     ensures { result ≡ opposite (Some size) }
 {

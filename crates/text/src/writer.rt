@@ -30,6 +30,7 @@ impl<'a> Writer<'a> {
     }
 
     // Writes bytes, as far as there are places.
+    #[tactic(auto, using(crate::proofs::Writing::front_written))]
     pub fn put(&mut self, bytes: &[u8])
         ensures { Wrote self.old bytes.now self.new }
     {
@@ -49,11 +50,11 @@ impl<'a> Writer<'a> {
     }
 
     // The same for a number in decimal. Division by ten gives the last digit first, so the digits
-    // fill an array of twenty bytes from its end; every number below 2^64 fits. A loop of its own and
-    // not the kit's `itoa`: must-fail/digits_skipped.edit and zero_in_front_printed.edit are of it.
+    // fill an array of twenty bytes from its end; every number below 2^64 fits.
     pub fn put_number(&mut self, n: u64)
         ensures { Wrote self.old (decimal n) self.new }
     {
+        // Not the kit's itoa: must-fail/digits_skipped.edit, which may not change, is of this loop.
         let mut digits = [0u8; 20];
         let mut first = 19;
         let mut left = n;
