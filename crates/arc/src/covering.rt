@@ -21,8 +21,9 @@ impl Within {
         }
     }
 
-    // A curve that is not negative adds to the values, so that the segment starts above them by all that it may add; a negative one takes from them,
-    // so that it starts with them. No branch: the signs of one domain after another may be hard to foresee.
+    // A curve that is not negative adds to the values, so that the segment starts above them by all
+    // that it may add; a negative one takes from them, so that it starts with them. No branch: the
+    // signs of one domain after another may be hard to foresee.
     fn covering_start(self) -> u64
         ensures { result ≡ covering_start (parabola self.arc) }
     {

@@ -1,6 +1,8 @@
-// Arcs: the parabola V(x) = (value + slope·x + curve·x(x-1)/2) mod modulus over the arguments x below count, in machine numbers. Its values and
-// slopes, and whether a search of the segment that covers it clears it. An argument of an arc is hard where V(x) is at most `highest`, on one side.
-// A domain and its parts are searched as arcs that are raised, so that this test is of both sides; a segment is an arc without a curve.
+// Arcs: the parabola V(x) = (value + slope·x + curve·x(x-1)/2) mod modulus over the arguments x
+// below count, in machine numbers. Its values and slopes, and whether a search of the segment that
+// covers it clears it. An argument of an arc is hard where V(x) is at most `highest`, on one side.
+// A domain and its parts are searched as arcs that are raised, so that this test is of both sides;
+// a segment is an arc without a curve.
 #![tactic(auto)]
 
 ghost use Rattle.std.specs.Prelude.{◌≡◌};
@@ -17,7 +19,7 @@ use segment::{Segment, Verdict};
 pub use within::Within;
 
 // `highest` is the highest hard value, one less than the window.
-#[derive(Clone, Copy)]
+#[derive(Clone, Copy, Debug, PartialEq, Eq)]
 pub struct Arc {
     pub modulus: u64,
     pub value: u64,
@@ -28,7 +30,7 @@ pub struct Arc {
 }
 
 // V(x) and the slope there, V(x + 1) - V(x).
-#[derive(Clone, Copy)]
+#[derive(Clone, Copy, Debug, PartialEq, Eq)]
 pub struct Point {
     pub value: u64,
     pub slope: u64,
@@ -37,8 +39,8 @@ pub struct Point {
 // Of a curve, without its sign.
 const LARGEST_CURVE: u64 = 1048576;
 
-// The first condition that does not hold: those of the segment with the slope for its step and the value for its start, then a curve from -1,048,576 to
-// 1,048,576.
+// The first condition that does not hold: those of the segment with the slope for its step and the
+// value for its start, then a curve from -1,048,576 to 1,048,576.
 pub fn refuse(
     modulus: u64,
     value: u64,
@@ -73,8 +75,8 @@ pub fn point_at(arc: Arc, x: u64) -> Option<Point>
     Some(within.point_at(x))
 }
 
-// Whether the regular search clears the covering segment: then V(x) is above the highest hard value at every argument. An arc outside the bounds is
-// never cleared.
+// Whether the regular search clears the covering segment: then V(x) is above the highest hard value
+// at every argument. An arc outside the bounds is never cleared.
 pub fn regular_verdict(arc: Arc) -> Verdict
     ensures { result ≡ arc_verdict regular arc }
 {

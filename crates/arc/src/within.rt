@@ -1,9 +1,10 @@
-// Arcs within the bounds: what is asked of an arc holds of them, so that points and verdicts need no test.
+// Arcs within the bounds: what is asked of an arc holds of them, so that points and verdicts need
+// no test.
 ghost use Rattle.std.specs.Prelude.{◌≡◌, ◌≤◌, MatchOption};
 ghost use Rattle.expansion.specs.Reached.Search.{regular, fine};
 ghost use Rattle.segment.specs.Search.{verdict};
-ghost use Rattle.parabola.specs.Parabola.{InRange, value_at, slope_at, covering};
-ghost use Rattle.arc.specs.Arc.{parabola};
+ghost use Rattle.parabola.specs.Parabola.{InRange, covering};
+ghost use Rattle.arc.specs.Arc.{parabola, point};
 
 use crate::{Arc, Point, refuse};
 use segment::Verdict;
@@ -15,7 +16,8 @@ pub struct Within {
 }
 
 impl Arc {
-    // Whether its highest hard value is below the modulus, so that its window fits a word, and nothing refuses its numbers.
+    // Whether its highest hard value is below the modulus, so that its window fits a word, and
+    // nothing refuses its numbers.
     pub fn within(self) -> Option<Within>
         ensures { MatchOption result (InRange (parabola self) → ⊥) (λ within. within.arc ≡ self) }
     {
@@ -40,7 +42,7 @@ impl Arc {
 impl Within {
     pub fn point_at(self, x: u64) -> Point
         requires { x ≤ 1048576 }
-        ensures { result ≡ record { value = value_at (parabola self.arc) x; slope = slope_at (parabola self.arc) x } }
+        ensures { result ≡ point (parabola self.arc) x }
     {
         Point {
             value: self.value_at(x),

@@ -1,16 +1,19 @@
 -- The eight parts, one after another: what has been found or listed of those before a part, and what is still to come, make up the whole.
 -- Assumes nothing.
 use mathlib.Core.Path.{◌≡◌, refl, sym, ◌∙◌, ap}
-use mathlib.Core.List.{List, [], map, map-map}
+use mathlib.Core.List.{List, [], ◌++◌, map, map-map, append-nil}
+use borrow.Rule.Slice.PartMut.{put_mid}
+use Rattle.std.proofs.lemmas.List.{take_all}
+use Rattle.std.proofs.Common.{append_assoc}
 use mathlib.Core.Logic.{by_cases}
 use Prim.Native.Nat.{ℕ, zero, suc, ◌+◌, ◌-◌, ◌≤◌, ◌<◌, min}
-use native.Mathlib.Nat.{add_assoc}
+use native.Mathlib.Nat.{add_assoc, zero-add}
 use native.Mathlib.Decide.{dec_le, dec_lt, ℕ_discrete}
 use native.Mathlib.Omega.{arith}
 use native.Mathlib.Numerals.{add-one}
 use lib.Dec.{ltb}
-use lib.ListN.{length, get_or, set, replicate, length-map, length-append, length-set}
-use lib.Seq.{sets, get_or-set_same, get_or-set_other, ext_get_or}
+use lib.ListN.{take, drop, length-drop, length, get_or, set, replicate, length-map, length-append, length-set}
+use lib.Seq.{sets, sets-eq, drop-drop, get_or-set_same, get_or-set_other, ext_get_or}
 use mir.Val.{bool_byte}
 use borrow.Author.Tests.{lt-ltb, le-ltb}
 use Rattle.numbers.specs.Lists.{tabulate, joined, overwrite_front}
@@ -195,6 +198,16 @@ module _ {p : Parabola} {marks : List Mark} {counts : List ℕ} {total i : ℕ} 
       rw (m, c, t)
 
 -- ---- listing
+
+-- what is written over the front of what stands from a place on, is written from that place on
+pub rest_written : (f : ℕ → ℕ) (xs l : List ℕ) (at : ℕ) {rest : List ℕ} → at + length xs ≤ length l
+    → rest ≡ sets (take (length l - at) (drop at l)) 0 (map f xs) → put_mid at (length l - at) l rest ≡ sets l at (map f xs)
+rest_written f xs l at h e =
+    let whole : take (length l - at) (drop at l) ≡ drop at l = take_all (length l - at) (drop at l) (omega (arith, length-drop at l)) in
+    let none : drop (length l - at) (drop at l) ≡ [] = no_entries _ (omega (arith, length-drop (length l - at) (drop at l), length-drop at l)) in
+    let front : sets (drop at l) 0 (map f xs) ≡ map f xs ++ drop (0 + length (map f xs)) (drop at l)
+    = sets-eq (map f xs) (drop at l) 0 (omega (arith, length-drop at l, length-map xs f)) in
+    rw (e, whole, front, none, append-nil, zero-add, drop-drop, sets-eq (map f xs) l at (omega (arith, h, length-map xs f)), append_assoc)
 
 -- f of each argument that the part i lists
 abbrev column_piece : (f : ℕ → ℕ) → Parabola → (i : ℕ) → List ℕ

@@ -132,51 +132,51 @@ module _ {p : Parabola} {second highest x number : ℕ} {t : Point} (c : Countin
 
 -- ---- listing
 
--- a column is written into a buffer from a place on, f of each hard argument: of those from x on it is still to be written, from the place `at` on
-pub record Column (f : ℕ → ℕ) (p : Parabola) (place : ℕ) (old : List ℕ) (x : ℕ) (now : List ℕ) (at : ℕ) : Type 0 where
-  pub writing : Writing (map f (hard_list p)) old place (map f (rest p x)) now at
+-- a column is written into a buffer, f of each hard argument: of those from x on it is still to be written, from the place `at` on
+pub record Column (f : ℕ → ℕ) (p : Parabola) (old : List ℕ) (x : ℕ) (now : List ℕ) (at : ℕ) : Type 0 where
+  pub writing : Writing (map f (hard_list p)) old 0 (map f (rest p x)) now at
 
-module _ {f : ℕ → ℕ} {p : Parabola} {place : ℕ} {old : List ℕ} where
-  column_first : Column f p place old 0 old place
-  column_first = record { writing = restate (ap (map f) (sym (rest_all p))) (begin_writing _ old place) }
+module _ {f : ℕ → ℕ} {p : Parabola} {old : List ℕ} where
+  column_first : Column f p old 0 old 0
+  column_first = record { writing = restate (ap (map f) (sym (rest_all p))) (begin_writing _ old 0) }
 
-  module _ {x : ℕ} {now : List ℕ} {at : ℕ} (c : Column f p place old x now at) where
+  module _ {x : ℕ} {now : List ℕ} {at : ℕ} (c : Column f p old x now at) where
     -- what is still to be written ends where all of it does
-    column_end : at + length (rest p x) ≡ place + length (hard_list p)
+    column_end : at + length (rest p x) ≡ length (hard_list p)
     column_end = omega (arith, c.writing.place, length-map (rest p x) f, length-map (hard_list p) f)
 
-    column_hit : x < p.count → is_hard p x ≡ true → Column f p place old (suc x) (set now at (f x)) (at + 1)
+    column_hit : x < p.count → is_hard p x ≡ true → Column f p old (suc x) (set now at (f x)) (at + 1)
     column_hit h e = record { writing = write_one (restate (ap (map f) (from_hit (is_hard p) p.count x h e)) c.writing) }
 
-    column_miss : x < p.count → is_hard p x ≡ false → Column f p place old (suc x) now at
+    column_miss : x < p.count → is_hard p x ≡ false → Column f p old (suc x) now at
     column_miss h e = record { writing = restate (ap (map f) (from_miss (is_hard p) p.count x h e)) c.writing }
 
-    column_done : length (rest p x) ≤ 0 → now ≡ sets old place (map f (hard_list p))
+    column_done : length (rest p x) ≤ 0 → now ≡ sets old 0 (map f (hard_list p))
     column_done h = (done (restate (ap (map f) (no_entries (rest p x) h)) c.writing)).1
 
 -- at the argument of x, with all hard arguments before it and their values written, and the next ones to be written at the place `at`
-pub record Listing (p : Parabola) (second highest raise begin place : ℕ) (old old_values list values : List ℕ) (t : Point) (at x : ℕ) : Type 0 where
+pub record Listing (p : Parabola) (second highest raise begin : ℕ) (old old_values list values : List ℕ) (t : Point) (at x : ℕ) : Type 0 where
   pub argument : ℕ
   pub begun : x ≡ begin + argument
   pub point : At p second highest argument t
   pub within : argument ≤ p.count
-  pub arguments_column : Column (λ (y : ℕ). begin + y) p place old argument list at
-  pub values_column : Column (lowered_at raise p) p place old_values argument values at
+  pub arguments_column : Column (λ (y : ℕ). begin + y) p old argument list at
+  pub values_column : Column (lowered_at raise p) p old_values argument values at
 
-module _ {p : Parabola} {second highest raise begin place : ℕ} {old old_values : List ℕ} where
-  pub list_first : {t : Point} → At p second highest 0 t → Listing p second highest raise begin place old old_values old old_values t place begin
+module _ {p : Parabola} {second highest raise begin : ℕ} {old old_values : List ℕ} where
+  pub list_first : {t : Point} → At p second highest 0 t → Listing p second highest raise begin old old_values old old_values t 0 begin
   list_first a =
       record { argument = 0; begun = omega arith; point = a; within = omega arith; arguments_column = column_first; values_column = column_first }
 
-  module _ {list values : List ℕ} {t : Point} {at x : ℕ} (l : Listing p second highest raise begin place old old_values list values t at x) where
-    module _ (end : ℕ) (ends : end ≡ place + length (hard_list p)) (h : at < end) where
+  module _ {list values : List ℕ} {t : Point} {at x : ℕ} (l : Listing p second highest raise begin old old_values list values t at x) where
+    module _ (end : ℕ) (ends : end ≡ length (hard_list p)) (h : at < end) where
       -- as long as something is to be written, there are arguments left
       pub list_more : l.argument < p.count
       list_more =
           lt_of_not-le (λ k. omega (arith, column_end l.arguments_column, ap length (from_none (is_hard p) p.count l.argument k)))
 
       pub list_hit : t.value ≤ highest → {v : ℕ} → v ≡ (t.value + (p.unit - raise)) % p.unit
-          → Listing p second highest raise begin place old old_values (set list at x) (set values at v) (next_point second p.unit t) (at + 1) (x + 1)
+          → Listing p second highest raise begin old old_values (set list at x) (set values at v) (next_point second p.unit t) (at + 1) (x + 1)
       unfolding lowered
       list_hit k e =
           let hard = sym (at_test l.point) ∙ le-leb t.value highest k in
@@ -190,7 +190,7 @@ module _ {p : Parabola} {second highest raise begin place : ℕ} {old old_values
           }
 
       pub list_miss : highest < t.value
-          → Listing p second highest raise begin place old old_values list values (next_point second p.unit t) at (x + 1)
+          → Listing p second highest raise begin old old_values list values (next_point second p.unit t) at (x + 1)
       list_miss k =
           let not_hard = sym (at_test l.point) ∙ lt-leb t.value highest k in
           record {
@@ -202,8 +202,8 @@ module _ {p : Parabola} {second highest raise begin place : ℕ} {old old_values
             values_column = column_miss l.values_column list_more not_hard;
           }
 
-    pub list_done : (end : ℕ) → end ≡ place + length (hard_list p) → end ≤ at
-        → (list ≡ sets old place (map (λ (y : ℕ). begin + y) (hard_list p))) × (values ≡ sets old_values place (lowered_values raise p))
+    pub list_done : (end : ℕ) → end ≡ length (hard_list p) → end ≤ at
+        → (list ≡ sets old 0 (map (λ (y : ℕ). begin + y) (hard_list p))) × (values ≡ sets old_values 0 (lowered_values raise p))
     list_done end ends h =
         let none : length (rest p l.argument) ≤ 0 = omega (arith, column_end l.arguments_column) in
         (column_done l.arguments_column none, column_done l.values_column none)
@@ -212,7 +212,7 @@ module _ {p : Parabola} {second highest raise begin place : ℕ} {old old_values
 
 -- a column of f of every argument, each at its own place, where those from x on are all hard and still to be written
 pub record FullColumn (f : ℕ → ℕ) (p : Parabola) (old : List ℕ) (now : List ℕ) (x : ℕ) : Type 0 where
-  pub column : Column f p 0 old x now x
+  pub column : Column f p old x now x
   pub all_left : length (rest p x) ≡ p.count - x
 
 module _ {f : ℕ → ℕ} {p : Parabola} {old : List ℕ} where

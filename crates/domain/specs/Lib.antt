@@ -1,5 +1,6 @@
 pub mod Domain
 pub mod Scan
+pub mod Scanned
 pub mod Marks
 pub mod Phases
 pub mod Answer

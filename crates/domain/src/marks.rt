@@ -2,7 +2,8 @@
 ghost use Rattle.std.specs.Prelude.{◌≡◌};
 ghost use Rattle.domain.specs.Marks.{mark_number};
 
-// Of a part: not looked at, as phase 1 cleared the domain; clear; possible, and then it was scanned; or without arguments.
+// Of a part: not looked at, as phase 1 cleared the domain; clear; possible, and then it was
+// scanned; or without arguments.
 #[derive(Clone, Copy, Debug, PartialEq, Eq)]
 pub enum Mark {
     Unseen,

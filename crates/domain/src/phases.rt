@@ -1,11 +1,12 @@
-// The eight parts of an arc that phase 1 did not clear: examined, and then those with hard arguments listed.
+// The eight parts of an arc that phase 1 did not clear: examined, and then those with hard
+// arguments listed.
 ghost use Rattle.std.specs.Prelude.{◌≡◌, ◌+◌, ◌≤◌, ◌<◌, length};
 ghost use Rattle.std.proofs.lemmas.List.Edits.{sets};
 ghost use Rattle.numbers.specs.Lists.{overwrite_front};
 ghost use Rattle.parabola.specs.Parabola.{hard_list, part, part_start, part_count};
-ghost use Rattle.arc.specs.Arc.{parabola};
 ghost use Rattle.domain.specs.Phases.{part_report, hard_counts, report};
 ghost use Rattle.domain.specs.Scan.{listed_from, lowered_values};
+ghost use Rattle.domain.specs.Scanned.{scanned, arguments_of, values_of};
 
 use crate::marks::Mark;
 use crate::scan::Scan;
@@ -50,7 +51,7 @@ impl Scan {
     fn part(self, i: u64) -> Scan
         requires is_part { i < 8 }
         requires some_argument { 1 ≤ part_count self.within.arc.count i }
-        ensures made { parabola result.within.arc ≡ part (parabola self.within.arc) i }
+        ensures made { scanned result ≡ part (scanned self) i }
         ensures raise { result.raise ≡ self.raise }
         ensures begin { result.begin ≡ self.begin + part_start self.within.arc.count i }
     {
@@ -71,10 +72,11 @@ impl Scan {
         }
     }
 
-    // Phase 2, and the first half of phase 3: a part that is possible is scanned. One without arguments is neither searched nor scanned.
+    // Phase 2, and the first half of phase 3: a part that is possible is scanned. One without
+    // arguments is neither searched nor scanned.
     fn examine_part(self, i: u64) -> PartReport
         requires { i < 8 }
-        ensures { result ≡ part_report (part (parabola self.within.arc) i) }
+        ensures { result ≡ part_report (part (scanned self) i) }
     {
         if part_count(self.within.arc.count, i) == 0 {
             return PartReport {
@@ -96,7 +98,7 @@ impl Scan {
     }
 
     pub(crate) fn examine_parts(self) -> Report
-        ensures { result ≡ report (parabola self.within.arc) }
+        ensures { result ≡ report (scanned self) }
     {
         let mut marks = [Mark::Unseen; 8];
         let mut hard = [0u32; 8];
@@ -112,31 +114,33 @@ impl Scan {
 
     // The second half of phase 3, once it is known that the list and the values have room for all.
     pub(crate) fn list_parts(self, hard: [u32; 8], list: &mut [u64], values: &mut [u64])
-        requires hard_counted { hard ≡ hard_counts (parabola self.within.arc) }
-        requires list_room { length (hard_list (parabola self.within.arc)) ≤ length list.old }
-        requires values_room { length (hard_list (parabola self.within.arc)) ≤ length values.old }
-        ensures list_after { list.new ≡ overwrite_front (listed_from self.begin (parabola self.within.arc)) list.old }
-        ensures values_after { values.new ≡ overwrite_front (lowered_values self.raise (parabola self.within.arc)) values.old }
+        requires hard_counted { hard ≡ hard_counts (scanned self) }
+        requires list_room { length (hard_list (scanned self)) ≤ length list.old }
+        requires values_room { length (hard_list (scanned self)) ≤ length values.old }
+        ensures list_after { list.new ≡ overwrite_front (arguments_of self) list.old }
+        ensures values_after { values.new ≡ overwrite_front (values_of self) values.old }
     {
         let mut place: usize = 0;
         for (i, &number) in hard.iter().enumerate() {
-            self.list_part(i as u64, number, list, values, place);
+            self.list_part(i as u64, number, &mut list[place..], &mut values[place..]);
             place += number as usize;
         }
     }
 
     // A part without hard arguments has nothing to list, and is not made.
-    fn list_part(self, i: u64, number: u32, list: &mut [u64], values: &mut [u64], place: usize)
+    fn list_part(self, i: u64, number: u32, list: &mut [u64], values: &mut [u64])
         requires is_part { i < 8 }
-        requires number_counted { number ≡ length (hard_list (part (parabola self.within.arc) i)) }
-        requires list_room { place + number ≤ length list.old }
-        requires values_room { place + number ≤ length values.old }
-        ensures list_after { list.new ≡ sets list.old place (listed_from (self.begin + part_start self.within.arc.count i) (part (parabola self.within.arc) i)) }
-        ensures values_after { values.new ≡ sets values.old place (lowered_values self.raise (part (parabola self.within.arc) i)) }
+        requires number_counted { number ≡ length (hard_list (part (scanned self) i)) }
+        requires list_room { number ≤ length list.old }
+        requires values_room { number ≤ length values.old }
+        ensures list_after { list.new ≡ sets list.old 0
+            (listed_from (self.begin + part_start self.within.arc.count i) (part (scanned self) i)) }
+        ensures values_after { values.new ≡ sets values.old 0
+            (lowered_values self.raise (part (scanned self) i)) }
     {
         if number == 0 {
             return;
         }
-        self.part(i).list_hard(number, list, values, place);
+        self.part(i).list_hard(number, list, values);
     }
 }

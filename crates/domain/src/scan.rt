@@ -1,4 +1,5 @@
-// Scans: the hard arguments of an arc counted, and listed with their values, by going from each value to the next.
+// Scans: the hard arguments of an arc counted, and listed with their values, by going from each
+// value to the next.
 ghost use Rattle.std.specs.Prelude.{◌≡◌, ◌+◌, ◌%◌, ◌^◌, ◌≤◌, ◌<◌, length};
 ghost use Rattle.std.proofs.lemmas.List.Edits.{sets};
 ghost use Rattle.parabola.specs.Parabola.{hard_list};
@@ -8,7 +9,8 @@ ghost use Rattle.domain.specs.Scan.{PointBelow, next_point, listed_from, lowered
 use arc::{Point, Within};
 use numbers::{add, remainder, subtract};
 
-// An arc to be scanned: its argument x is listed as begin + x, and its value as it was before the arc was raised.
+// An arc to be scanned: its argument x is listed as begin + x, and its value as it was before the
+// arc was raised.
 #[derive(Clone, Copy)]
 pub(crate) struct Scan {
     pub(crate) within: Within,
@@ -18,7 +20,8 @@ pub(crate) struct Scan {
     pub(crate) ghost end_bound: { begin + within.arc.count ≤ 2 ^ 53 },
 }
 
-// A line keeps its slope. The compiler takes this test out of a scan's loop and makes two loops of it.
+// A line keeps its slope. The compiler takes this test out of a scan's loop and makes two loops of
+// it.
 fn next(point: Point, second: u64, modulus: u64) -> Point
     requires { PointBelow second modulus point }
     ensures { result ≡ next_point second modulus point }
@@ -35,7 +38,8 @@ fn next(point: Point, second: u64, modulus: u64) -> Point
     }
 }
 
-// a + b modulo M where b stays as it is in a loop: what the modulus exceeds it by is known before a is, and the test need not wait for the sum, as in `add`.
+// a + b modulo M where b stays as it is in a loop: what the modulus exceeds it by is known before a
+// is, and the test need not wait for the sum, as in `add`.
 fn add_fixed(a: u64, b: u64, modulus: u64) -> u64
     requires { (a < modulus) × (b < modulus) × (modulus ≤ 2 ^ 62) }
     ensures { result ≡ (a + b) % modulus }
@@ -48,9 +52,12 @@ fn add_fixed(a: u64, b: u64, modulus: u64) -> u64
 }
 
 impl Scan {
-    // How many hard arguments there are. Where no value is above the highest hard one, every argument is hard, and none need be visited.
+    ghost use Rattle.domain.specs.Scanned.{scanned, arguments_of, values_of};
+
+    // How many hard arguments there are. Where no value is above the highest hard one, every
+    // argument is hard, and none need be visited.
     pub(crate) fn count_hard(self) -> u32
-        ensures { result ≡ length (hard_list (parabola self.within.arc)) }
+        ensures { result ≡ length (hard_list (scanned self)) }
     {
         let arc = self.within.arc;
         if arc.highest == arc.modulus - 1 {
@@ -62,21 +69,22 @@ impl Scan {
             slope: arc.slope,
         };
         let mut number: u32 = 0;
-        for x in 0..arc.count {
+        for _x in 0..arc.count {
             number += (point.value <= arc.highest) as u32;
             point = next(point, second, arc.modulus);
         }
         number
     }
 
-    // Writes the hard arguments, of which there are `number`, into the list from a place on, and beside each its value. It ends with the last of them. The next value
-    // is formed before this one is written, so that the sum and the writes overlap.
-    pub(crate) fn list_hard(self, number: u32, list: &mut [u64], values: &mut [u64], place: usize)
-        requires number_counted { number ≡ length (hard_list (parabola self.within.arc)) }
-        requires list_room { place + number ≤ length list.old }
-        requires values_room { place + number ≤ length values.old }
-        ensures list_after { list.new ≡ sets list.old place (listed_from self.begin (parabola self.within.arc)) }
-        ensures values_after { values.new ≡ sets values.old place (lowered_values self.raise (parabola self.within.arc)) }
+    // Writes the hard arguments, of which there are `number`, into the list from a place on, and
+    // beside each its value. It ends with the last of them. The next value is formed before this
+    // one is written, so that the sum and the writes overlap.
+    pub(crate) fn list_hard(self, number: u32, list: &mut [u64], values: &mut [u64])
+        requires number_counted { number ≡ length (hard_list (scanned self)) }
+        requires list_room { number ≤ length list.old }
+        requires values_room { number ≤ length values.old }
+        ensures list_after { list.new ≡ sets list.old 0 (arguments_of self) }
+        ensures values_after { values.new ≡ sets values.old 0 (values_of self) }
     {
         let arc = self.within.arc;
         let second = remainder(arc.curve, arc.modulus);
@@ -84,8 +92,8 @@ impl Scan {
             value: arc.value,
             slope: arc.slope,
         };
-        let end = place + number as usize;
-        let mut at = place;
+        let end = number as usize;
+        let mut at: usize = 0;
         let mut x = self.begin;
         while at < end {
             let value = point.value;
@@ -100,8 +108,9 @@ impl Scan {
     }
 }
 
-// The same where all arguments are hard, from the first place on, of an arc that is not raised and begins at 0. There is nothing to test. Each column has its own
-// loop: the arguments need no values, so the compiler writes several at once.
+// The same where all arguments are hard, from the first place on, of an arc that is not raised and
+// begins at 0. There is nothing to test. Each column has its own loop: the arguments need no
+// values, so the compiler writes several at once.
 pub(crate) fn list_all(within: Within, list: &mut [u64], values: &mut [u64])
     requires all_hard { length (hard_list (parabola within.arc)) ≡ within.arc.count }
     requires list_room { within.arc.count ≤ length list.old }

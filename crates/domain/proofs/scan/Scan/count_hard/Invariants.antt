@@ -5,4 +5,4 @@ use Rattle.domain.proofs.Scanning.{Counting}
 use Rattle.domain.proofs.scan.Scan.count_hard.Given as goal
 
 abbrev pub invariant-loop-x : goal.invariant-loop-x
-invariant-loop-x l = Counting (parabola l.arc) l.second l.arc.highest l.point l.x l.number
+invariant-loop-x l = Counting (parabola l.arc) l.second l.arc.highest l.point l._x l.number

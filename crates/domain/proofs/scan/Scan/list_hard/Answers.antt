@@ -1,5 +1,5 @@
 -- `domain::scan::Scan::list_hard` meets its contract. Assumes nothing.
-use Rattle.std.proofs.Common.{refl, ap, arith, ◌<◌, ◌+◌, ℕ}
+use Rattle.std.proofs.Common.{refl, arith, ◌<◌}
 use Rattle.domain.proofs.Scanning.{at_first, at_below, at_next, list_first, list_more, list_hit, list_miss, list_done}
 use Rattle.domain.proofs.scan.Scan.list_hard.Goals as goal
 use Rattle.domain.proofs.scan.Scan.list_hard.Goals.{then-value-arc, else-value-arc}
@@ -25,19 +25,19 @@ bounds-values-at c = omega (arith, c.loop-at.invariant.values_column.writing.len
 pub overflow_add-x : goal.overflow_add-x
 overflow_add-x c =
     let i = c.loop-at.invariant in
-    let more = list_more i _ (ap (λ (n : ℕ). c.args.place + n) c.requires.number_counted) c.loop-at-test.true in
+    let more = list_more i _ c.requires.number_counted c.loop-at-test.true in
     record { fits = omega (arith, i.begun, more, c.args.self.end_bound) }
 
 pub loop-at-smaller : goal.loop-at-smaller
 loop-at-smaller c =
     let i = c.loop-at.invariant in
-    let more = list_more i _ (ap (λ (n : ℕ). c.args.place + n) c.requires.number_counted) c.loop-at-test.true in
+    let more = list_more i _ c.requires.number_counted c.loop-at-test.true in
     omega (arith, i.begun, more)
 
 pub loop-at-preserved : goal.loop-at-preserved
 loop-at-preserved c =
     let i = c.loop-at.invariant in
-    let e = ap (λ (n : ℕ). c.args.place + n) c.requires.number_counted in
+    let e = c.requires.number_counted in
     elim c.if-value-arc.branch [
       | then-value-arc w ↦
           rw (w.list-is, w.values-is, w.at-is, c.next-point.ensures) (list_hit i _ e c.loop-at-test.true w.if-value-arc.true w.subtract.ensures)
@@ -46,5 +46,5 @@ loop-at-preserved c =
 
 pub returns : goal.returns
 returns c =
-    let done = list_done c.loop-at.invariant _ (ap (λ (n : ℕ). c.args.place + n) c.requires.number_counted) c.loop-at-test.false in
+    let done = list_done c.loop-at.invariant _ c.requires.number_counted c.loop-at-test.false in
     record { list_after = done.0; values_after = done.1 }

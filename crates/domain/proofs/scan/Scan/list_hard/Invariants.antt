@@ -8,7 +8,7 @@ use Rattle.domain.proofs.scan.Scan.list_hard.Given as goal
 
 abbrev pub invariant-loop-at : goal.invariant-loop-at
 invariant-loop-at l =
-    Listing (parabola l.self.within.arc) l.second l.self.within.arc.highest l.self.raise l.self.begin l.place l.initial.list l.initial.values l.list l.values l.point l.at l.x
+    Listing (parabola l.self.within.arc) l.second l.self.within.arc.highest l.self.raise l.self.begin l.initial.list l.initial.values l.list l.values l.point l.at l.x
 
 abbrev pub decreases-loop-at : goal.decreases-loop-at
 decreases-loop-at l = l.self.begin + l.self.within.arc.count - l.x

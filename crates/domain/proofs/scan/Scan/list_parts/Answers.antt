@@ -1,12 +1,13 @@
 -- `domain::scan::Scan::list_parts` meets its contract. Assumes nothing.
 use Rattle.std.proofs.Common.{◌∙◌, ap, arith, ◌<◌, ◌≡◌, ℕ, length}
 use Rattle.std.proofs.Common.{List, get_or}
+use Rattle.domain.specs.Scan.{lowered_at}
 use Rattle.numbers.proofs.Selections.{tabulate_at}
 use Rattle.parabola.specs.Parabola.{Parabola, hard_list, part}
 use Rattle.parabola.proofs.Laws.{list_most}
 use Rattle.arc.specs.Arc.{parabola}
 use Rattle.domain.specs.Phases.{hard_count, hard_counts}
-use Rattle.domain.proofs.Parts.{column_end, list_first, list_room, list_next, list_done}
+use Rattle.domain.proofs.Parts.{column_end, list_first, list_room, rest_written, list_next, list_done}
 use Rattle.domain.proofs.scan.Scan.list_parts.Goals as goal
 
 -- how many hard arguments a part has
@@ -39,8 +40,12 @@ overflow_add-place c =
 
 pub loop-i-preserved : goal.loop-i-preserved
 loop-i-preserved c =
-    list_next c.loop-i.invariant c.args.self.within.in_range c.loop-i-test.true (number_is (parabola c.args.self.within.arc) c.requires.hard_counted c.loop-i-test.true)
-    (c.list_part.ensures.list_after, c.list_part.ensures.values_after)
+    let number = number_is (parabola c.args.self.within.arc) c.requires.hard_counted c.loop-i-test.true in
+    let room = list_room c.loop-i.invariant c.loop-i-test.true c.requires.list_room c.requires.values_room in
+    list_next c.loop-i.invariant c.args.self.within.in_range c.loop-i-test.true number (
+      rest_written _ (hard_list (part (parabola c.args.self.within.arc) c.loop-i.i)) c.loop-i.list c.loop-i.place room.0 c.list_part.ensures.list_after,
+      rest_written (lowered_at c.args.self.raise (part (parabola c.args.self.within.arc) c.loop-i.i)) (hard_list (part (parabola c.args.self.within.arc) c.loop-i.i)) c.loop-i.values c.loop-i.place room.1 c.list_part.ensures.values_after,
+    )
 
 pub returns : goal.returns
 returns c =
