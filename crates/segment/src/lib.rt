@@ -66,7 +66,7 @@ pub fn regular_search(segment: Segment) -> Result<Regular, Refusal>
     ensures { result ≡ regular_answer segment.modulus segment.step segment.start segment.count segment.window }
 {
     refuse(segment)?;
-    let end = end::<RegularWalk>(segment.modulus, segment.step, segment.start, segment.count);
+    let end = end::<RegularWalk>(segment);
     Ok(Regular {
         count: end.longs + end.shorts,
         quotients: end.index,
@@ -82,7 +82,7 @@ pub fn fine_search(segment: Segment) -> Result<Fine, Refusal>
     ensures { result ≡ fine_answer segment.modulus segment.step segment.start segment.count segment.window }
 {
     refuse(segment)?;
-    let end = end::<FineWalk>(segment.modulus, segment.step, segment.start, segment.count);
+    let end = end::<FineWalk>(segment);
     Ok(Fine {
         count: end.longs + end.shorts,
         index: end.index,
@@ -100,7 +100,7 @@ pub fn regular_verdict(segment: Segment) -> Verdict
     let Ok(()) = refuse(segment) else {
         return Verdict::Possible;
     };
-    let sketch = end::<DistanceWalk>(segment.modulus, segment.step, segment.start, segment.count);
+    let sketch = end::<DistanceWalk>(segment);
     judge(sketch.distance, segment.window)
 }
 

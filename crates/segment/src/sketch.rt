@@ -7,6 +7,7 @@
 ghost use Rattle.std.specs.Prelude.{◌≡◌, true, cond};
 ghost use Rattle.segment.specs.Sketch.{Divisible, from_lowest_cut, next_row};
 
+use crate::Segment;
 use crate::state::State;
 use crate::walk::Walk;
 
@@ -35,8 +36,8 @@ impl Walk for DistanceWalk {
 
     ghost CanGoOn = { Divisible };
 
-    fn first(modulus: u64, step: u64, start: u64, count: u64) -> Sketch {
-        let state = State::first(modulus, step, start, count);
+    fn first(segment: Segment) -> Sketch {
+        let state = State::first(segment);
         Sketch {
             long: state.long,
             short: state.short,

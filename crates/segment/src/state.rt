@@ -11,6 +11,7 @@
 ghost use Rattle.std.specs.Prelude.{◌≡◌, true, false, ◌<◌};
 ghost use Rattle.segment.specs.State.{first_state, quotient, all_cuts, last_cuts, cuts_of, Cutting, nearest, advanced_left, highest_cut, advanced_right, advanced, row_of, in_next_row, finished, ends, Steppable, regular_next, fine_next};
 
+use crate::Segment;
 use crate::walk::Walk;
 use numbers::{min, saturating_sub};
 
@@ -66,19 +67,19 @@ struct CutRow {
 
 impl State {
     // One point. A step of 0 has no more than that, and a count of 1 asks for no more.
-    pub(crate) fn first(modulus: u64, step: u64, start: u64, count: u64) -> State
-        ensures { result ≡ first_state modulus step start count }
+    pub(crate) fn first(segment: Segment) -> State
+        ensures { result ≡ first_state segment.modulus segment.step segment.start segment.count }
     {
         State {
-            long: modulus,
-            short: step,
+            long: segment.modulus,
+            short: segment.step,
             longs: 1,
             shorts: 0,
             argument: 0,
-            distance: start,
+            distance: segment.start,
             part: 0,
             index: 0,
-            done: (step == 0) | (count <= 1),
+            done: (segment.step == 0) | (segment.count <= 1),
         }
     }
 
@@ -323,8 +324,8 @@ impl Walk for RegularWalk {
 
     ghost CanGoOn = { Steppable };
 
-    fn first(modulus: u64, step: u64, start: u64, count: u64) -> State {
-        State::first(modulus, step, start, count)
+    fn first(segment: Segment) -> State {
+        State::first(segment)
     }
 
     fn is_done(state: State) -> bool {
@@ -353,8 +354,8 @@ impl Walk for FineWalk {
 
     ghost CanGoOn = { Steppable };
 
-    fn first(modulus: u64, step: u64, start: u64, count: u64) -> State {
-        State::first(modulus, step, start, count)
+    fn first(segment: Segment) -> State {
+        State::first(segment)
     }
 
     fn is_done(state: State) -> bool {

@@ -2,8 +2,9 @@
 // Each search says where it begins and what a row makes of where it stands; one loop serves them
 // all.
 ghost use Rattle.std.specs.Prelude.{◌≡◌, true, false, ℕ};
-ghost use Rattle.segment.specs.Accepted.{asked};
-ghost use Rattle.segment.specs.Walk.{Walking, after, GoesOn};
+ghost use Rattle.segment.specs.Walk.{Walking, after, GoesOn, without_window};
+
+use crate::Segment;
 
 // How many rows a search may take. Every accepted segment is done by then.
 const BUDGET: u32 = 29;
@@ -20,10 +21,9 @@ pub(crate) trait Walk {
     // What a row asks of a state that is not done.
     ghost CanGoOn: { (count : ℕ) → Self.State → Type 0 };
 
-    // The window plays no part in a search; the contract has the least that is accepted. (As a
-    // struct, the four numbers would be a line each at every call of `end`: no plainer.)
-    fn first(modulus: u64, step: u64, start: u64, count: u64) -> Self::State
-        ensures { result ≡ walk.first (asked modulus step start count 1) };
+    // The window plays no part in a search.
+    fn first(segment: Segment) -> Self::State
+        ensures { result ≡ walk.first (without_window segment) };
 
     fn is_done(state: Self::State) -> bool
         ensures { result ≡ walk.done state };
@@ -39,22 +39,22 @@ pub(crate) trait Walk {
 
 // The state in which a search ends. That it goes on to an end is asked of each caller: as a law of
 // the trait its proof would have to stand in specs/.
-pub(crate) fn end<W: Walk>(modulus: u64, step: u64, start: u64, count: u64) -> W::State
-    requires { GoesOn W.walk W.CanGoOn (asked modulus step start count 1) }
-    ensures { result ≡ after W.walk (asked modulus step start count 1) 29 }
+pub(crate) fn end<W: Walk>(segment: Segment) -> W::State
+    requires { GoesOn W.walk W.CanGoOn (without_window segment) }
+    ensures { result ≡ after W.walk (without_window segment) 29 }
 {
-    let mut state = W::first(modulus, step, start, count);
+    let mut state = W::first(segment);
     if W::is_done(state) {
         return state;
     }
     for _ in 0..BUDGET.div_ceil(2) {
         // One test at the head of a turn and one between its rows would do, and are slower: the
         // compiler then tests a divisor for 0.
-        state = W::even_row(state, count);
+        state = W::even_row(state, segment.count);
         if W::is_done(state) {
             return state;
         }
-        state = W::odd_row(state, count);
+        state = W::odd_row(state, segment.count);
         if W::is_done(state) {
             return state;
         }

@@ -10,6 +10,11 @@ use Rattle.job.proofs.report.put_report.Goals as goal
 pub returns : goal.returns
 unfolding report
 returns c =
-    rw (line_then (bytes "first=") (verdict_name c.args.first), line_then (bytes "parts=") (mark_digits (mark_numbers c.args.marks.now)))
+    let a = c.args in
+    let lines = wrote_more _ _ c.put_line.ensures c.put_arguments.ensures in
+    rw (
+      line_then (bytes "first=") (verdict_name a.first),
+      line_then (bytes "parts=") (mark_digits (mark_numbers a.marks.now)),
+    )
     (rw (line_then (bytes "listed="))
-    (wrote_more _ _ c.put_first.ensures (wrote_more _ _ c.put_parts.ensures (wrote_more _ _ c.put_line.ensures c.put_arguments.ensures))))
+    (wrote_more _ _ c.put_first.ensures (wrote_more _ _ c.put_parts.ensures lines)))
