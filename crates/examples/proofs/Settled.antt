@@ -5,6 +5,8 @@ use Prim.Native.Nat.{ℕ, ◌≤◌}
 use native.Mathlib.Decide.{dec_le, dec_lt, dec_dvd, ℕ_discrete}
 use native.Mathlib.Omega.{arith}
 use Rattle.numbers.specs.Checklist.{first_failing, unless_refused}
+use Rattle.std.proofs.Common.{Ok}
+use Rattle.numbers.specs.Refusals.{outcome, named}
 use Rattle.numbers.specs.Divisors.{gcd_from, gcd}
 use Rattle.numbers.specs.Integers.{◌modulo◌}
 use Rattle.numbers.specs.Sums.{alternating_sum}
@@ -27,7 +29,7 @@ use Rattle.parabola.specs.Parabola.{triangle, value_at, slope_at, spread, coveri
 use Rattle.domain.specs.Phases.{mark_of, mark_with, marks_by}
 use Rattle.domain.specs.Answer.{domain_number, domain_answer, marks_after, list_after, values_after, scan_number, scan_answer, scan_list_after, scan_values_after}
 use Rattle.text.specs.Text.{decimal_within, decimal}
-use Rattle.text.specs.Reading.{starts, takes_digit, digits_from, number_from, field_at, unsigned, opposite, signed_from, signed_field_at}
+use Rattle.text.specs.Reading.{starts, takes_digit, digits_from, number_from, field_at, signed_field_at}
 use Rattle.job.specs.Reading.{rest_from, lines_from, reading}
 use Rattle.job.specs.Output.{verdict_name, argument_lines, refused, report, printed_for, printed, output_with, output_of}
 use Rattle.examples.specs.Settled.{RegularShows, FineShows, Example1, Example6, Example7, Example8, Example9, Example10, Example11, BothSides, AnyLength, WindowsFrom1, ValuesBesideArguments, CountedFromTheBinade, DigitsAndDivision, Settled}
@@ -107,7 +109,7 @@ example_9 =
     }
 
 domains : Example10 × Example11 × BothSides × AnyLength × WindowsFrom1 × ValuesBesideArguments × CountedFromTheBinade
-unfolding dec_le dec_lt Dec.and ranged first_failing outcome named unless_refused rows_from expansion regular_from regular parts_from fine_from fine configurations_of reached_in reached residue least_from argument distance verdict_at segments.refusal regular_shown fine_shown regular_answer fine_answer filter_range tabulate overwrite_front ◌modulo◌ triangle value_at slope_at geometry.is_hard geometry.hard_list parabola.is_hard parabola.hard_list parabola.centred spread covering_step start_over covering_start covering_window continued part_count part_start mark_of mark_with marks_by scan_number scan_answer scan_list_after scan_values_after domain_number domain_answer marks_after list_after values_after decimal_within decimal starts takes_digit digits_from number_from field_at unsigned opposite signed_from signed_field_at rest_from lines_from reading verdict_name argument_lines refused report printed_for printed output_with output_of
+unfolding dec_le dec_lt Dec.and ranged first_failing outcome named unless_refused rows_from expansion regular_from regular parts_from fine_from fine configurations_of reached_in reached residue least_from argument distance verdict_at segments.refusal regular_shown fine_shown regular_answer fine_answer filter_range tabulate overwrite_front ◌modulo◌ triangle value_at slope_at geometry.is_hard geometry.hard_list parabola.is_hard parabola.hard_list parabola.centred spread covering_step start_over covering_start covering_window continued part_count part_start mark_of mark_with marks_by scan_number scan_answer scan_list_after scan_values_after domain_number domain_answer marks_after list_after values_after decimal_within decimal starts takes_digit digits_from number_from field_at signed_field_at rest_from lines_from reading verdict_name argument_lines refused report printed_for printed output_with output_of
 domains = (
   record {
     prints = refl;

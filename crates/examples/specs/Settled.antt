@@ -1,6 +1,6 @@
 -- Document 01's settled examples marked P, as document 02's requests leave them, and examples of those requests, as one statement with a field for each.
 -- Assumes nothing: these are statements.
-use Rattle.std.specs.Prelude.{◌≡◌, List, [], ◌∷◌, ◌++◌, ℕ, ◌≤◌, ◌<◌, ℤ, pos, negsuc, replicate, Result, Ok, Err}
+use Rattle.std.specs.Prelude.{◌≡◌, List, [], ◌∷◌, ◌++◌, ℕ, ◌≤◌, ◌<◌, ℤ, pos, negsuc, replicate, Some, Result, Ok, Err}
 use Rattle.numbers.specs.Lists.{tabulate}
 use Rattle.numbers.specs.declared.refusals.Refusal.{Refusal}
 use Rattle.numbers.specs.declared.refusals.Refusal.TheVariants.{Modulus, Step, Count, Window, Curve, Room, Argument, Target, Origin}
@@ -17,11 +17,12 @@ use Rattle.parabola.specs.Parabola.{part_start, part_count}
 use Rattle.domain.specs.Domain.{covering_of}
 use Rattle.domain.specs.Answer.{scan_answer, scan_list_after, scan_values_after, domain_answer, marks_after, list_after, values_after}
 use Rattle.domain.specs.declared.Domain.{Domain}
+use Rattle.domain.specs.Marks.{mark_numbers}
+use Rattle.domain.specs.declared.marks.Mark.{Mark}
 use Rattle.domain.specs.declared.Searched.{Searched}
 use Rattle.text.specs.Text.{bytes}
 use Rattle.job.specs.Reading.{reading}
 use Rattle.job.specs.Output.{output_of}
-use Rattle.job.specs.declared.Reading.TheVariants.{Read}
 
 -- what a domain's search answers: phase 1's verdict, and so many listed
 abbrev pub searched : (first : Verdict) → (listed : ℕ) → Searched
@@ -140,9 +141,9 @@ pub record Example10 : Type 0 where
   pub prints : output_of (bytes "modulus=45\nvalue=44\nslope=31\ncurve=0\ncount=16\nwindow=3\n")
       ≡ bytes "first=possible\nparts=22111111\nlisted=2\nargument=0 value=44\nargument=3 value=2\n"
   pub read : reading (bytes "modulus=45\nvalue=44\nslope=31\ncurve=0\ncount=16\nwindow=3\n")
-      ≡ Read J
+      ≡ Some J
   pub answered : domain_answer J 4096 4096 ≡ Ok (searched Possible 2)
-  pub marks : (old : List ℕ) → marks_after J 4096 4096 old ≡ 2 ∷ 2 ∷ 1 ∷ 1 ∷ 1 ∷ 1 ∷ 1 ∷ 1 ∷ []
+  pub marks : (old : List Mark) → mark_numbers (marks_after J 4096 4096 old) ≡ 2 ∷ 2 ∷ 1 ∷ 1 ∷ 1 ∷ 1 ∷ 1 ∷ 1 ∷ []
   pub left : (x y z : ℕ) → list_after J 3 (x ∷ y ∷ z ∷ []) ≡ 0 ∷ 3 ∷ z ∷ []
   pub values : (x y z : ℕ) → values_after J 3 (x ∷ y ∷ z ∷ []) ≡ 44 ∷ 2 ∷ z ∷ []
   pub covered : covering_of J ≡ segment 45 14 1 16 5
@@ -158,11 +159,11 @@ bent s = record { origin = 0; modulus = 45; value = 0; slope = 0; curve = s; cou
 -- with s 1: parts 22111111, list 0, 1 with the values 0, 0. With s -1 the same
 pub record Example11 : Type 0 where
   pub rising : domain_answer (bent (pos 1)) 2 2 ≡ Ok (searched Possible 2)
-  pub rising_marks : (old : List ℕ) → marks_after (bent (pos 1)) 2 2 old ≡ 2 ∷ 2 ∷ 1 ∷ 1 ∷ 1 ∷ 1 ∷ 1 ∷ 1 ∷ []
+  pub rising_marks : (old : List Mark) → mark_numbers (marks_after (bent (pos 1)) 2 2 old) ≡ 2 ∷ 2 ∷ 1 ∷ 1 ∷ 1 ∷ 1 ∷ 1 ∷ 1 ∷ []
   pub rising_left : (x y : ℕ) → list_after (bent (pos 1)) 2 (x ∷ y ∷ []) ≡ 0 ∷ 1 ∷ []
   pub rising_values : (x y : ℕ) → values_after (bent (pos 1)) 2 (x ∷ y ∷ []) ≡ 0 ∷ 0 ∷ []
   pub falling : domain_answer (bent (negsuc 0)) 2 2 ≡ Ok (searched Possible 2)
-  pub falling_marks : (old : List ℕ) → marks_after (bent (negsuc 0)) 2 2 old ≡ 2 ∷ 2 ∷ 1 ∷ 1 ∷ 1 ∷ 1 ∷ 1 ∷ 1 ∷ []
+  pub falling_marks : (old : List Mark) → mark_numbers (marks_after (bent (negsuc 0)) 2 2 old) ≡ 2 ∷ 2 ∷ 1 ∷ 1 ∷ 1 ∷ 1 ∷ 1 ∷ 1 ∷ []
   pub falling_left : (x y : ℕ) → list_after (bent (negsuc 0)) 2 (x ∷ y ∷ []) ≡ 0 ∷ 1 ∷ []
   pub falling_values : (x y : ℕ) → values_after (bent (negsuc 0)) 2 (x ∷ y ∷ []) ≡ 0 ∷ 0 ∷ []
 
@@ -189,7 +190,7 @@ falling_arc = record { origin = 0; modulus = 45; value = 11; slope = 8; curve = 
 pub record BothSides : Type 0 where
   -- a window of 2 lists 2 and 6, whose values are 9 and 1; a window of 6 lists all
   pub line_2 : domain_answer (line_of_10 2) 2 2 ≡ Ok (searched Possible 2)
-  pub line_2_marks : (old : List ℕ) → marks_after (line_of_10 2) 2 2 old ≡ 1 ∷ 1 ∷ 2 ∷ 1 ∷ 1 ∷ 1 ∷ 2 ∷ 1 ∷ []
+  pub line_2_marks : (old : List Mark) → mark_numbers (marks_after (line_of_10 2) 2 2 old) ≡ 1 ∷ 1 ∷ 2 ∷ 1 ∷ 1 ∷ 1 ∷ 2 ∷ 1 ∷ []
   pub line_2_left : (x y : ℕ) → list_after (line_of_10 2) 2 (x ∷ y ∷ []) ≡ 2 ∷ 6 ∷ []
   pub line_2_values : (x y : ℕ) → values_after (line_of_10 2) 2 (x ∷ y ∷ []) ≡ 9 ∷ 1 ∷ []
   pub line_6 : domain_answer (line_of_10 6) 8 8 ≡ Ok (searched Possible 8)
@@ -206,12 +207,12 @@ pub record BothSides : Type 0 where
   pub below_6_values : values_after (constant_of_11 6 6) 8 (replicate 8 0) ≡ replicate 8 6
   -- values 1 and 44 listed; D is 28, the start gains 1, and the window of the covering segment is 2·2 - 1 + 28
   pub rising : domain_answer rising_arc 2 2 ≡ Ok (searched Possible 2)
-  pub rising_marks : (old : List ℕ) → marks_after rising_arc 2 2 old ≡ 1 ∷ 1 ∷ 1 ∷ 1 ∷ 2 ∷ 1 ∷ 2 ∷ 1 ∷ []
+  pub rising_marks : (old : List Mark) → mark_numbers (marks_after rising_arc 2 2 old) ≡ 1 ∷ 1 ∷ 1 ∷ 1 ∷ 2 ∷ 1 ∷ 2 ∷ 1 ∷ []
   pub rising_left : (x y : ℕ) → list_after rising_arc 2 (x ∷ y ∷ []) ≡ 4 ∷ 6 ∷ []
   pub rising_values : (x y : ℕ) → values_after rising_arc 2 (x ∷ y ∷ []) ≡ 1 ∷ 44 ∷ []
   pub rising_covered : covering_of rising_arc ≡ segment 45 28 1 8 31
   pub falling : domain_answer falling_arc 2 2 ≡ Ok (searched Possible 2)
-  pub falling_marks : (old : List ℕ) → marks_after falling_arc 2 2 old ≡ 1 ∷ 1 ∷ 1 ∷ 1 ∷ 1 ∷ 1 ∷ 2 ∷ 2 ∷ []
+  pub falling_marks : (old : List Mark) → mark_numbers (marks_after falling_arc 2 2 old) ≡ 1 ∷ 1 ∷ 1 ∷ 1 ∷ 1 ∷ 1 ∷ 2 ∷ 2 ∷ []
   pub falling_left : (x y : ℕ) → list_after falling_arc 2 (x ∷ y ∷ []) ≡ 6 ∷ 7 ∷ []
   pub falling_values : (x y : ℕ) → values_after falling_arc 2 (x ∷ y ∷ []) ≡ 44 ∷ 1 ∷ []
   pub falling_covered : covering_of falling_arc ≡ segment 45 37 12 8 31
@@ -240,24 +241,24 @@ pub record AnyLength : Type 0 where
   pub answered_12 : domain_answer (JOf 12) 2 2 ≡ Ok (searched Possible 2)
   pub left_12 : (x y z : ℕ) → list_after (JOf 12) 3 (x ∷ y ∷ z ∷ []) ≡ 0 ∷ 3 ∷ z ∷ []
   pub values_12 : (x y z : ℕ) → values_after (JOf 12) 3 (x ∷ y ∷ z ∷ []) ≡ 44 ∷ 2 ∷ z ∷ []
-  pub marks_3 : (old : List ℕ) → marks_after (JOf 3) 1 1 old ≡ 2 ∷ 1 ∷ 1 ∷ 3 ∷ 3 ∷ 3 ∷ 3 ∷ 3 ∷ []
+  pub marks_3 : (old : List Mark) → mark_numbers (marks_after (JOf 3) 1 1 old) ≡ 2 ∷ 1 ∷ 1 ∷ 3 ∷ 3 ∷ 3 ∷ 3 ∷ 3 ∷ []
   pub left_3 : (x y : ℕ) → list_after (JOf 3) 2 (x ∷ y ∷ []) ≡ 0 ∷ y ∷ []
   pub values_3 : (x y : ℕ) → values_after (JOf 3) 2 (x ∷ y ∷ []) ≡ 44 ∷ y ∷ []
   -- hard arguments in longer and in shorter parts. With two arguments the part 6 of the first domain, and the part 4 of the second, would have the next part's
   -- hard argument and not be clear
   pub rising : domain_answer rising_12 2 2 ≡ Ok (searched Possible 2)
-  pub rising_marks : (old : List ℕ) → marks_after rising_12 2 2 old ≡ 2 ∷ 1 ∷ 1 ∷ 1 ∷ 1 ∷ 1 ∷ 1 ∷ 2 ∷ []
+  pub rising_marks : (old : List Mark) → mark_numbers (marks_after rising_12 2 2 old) ≡ 2 ∷ 1 ∷ 1 ∷ 1 ∷ 1 ∷ 1 ∷ 1 ∷ 2 ∷ []
   pub rising_left : (x y : ℕ) → list_after rising_12 2 (x ∷ y ∷ []) ≡ 0 ∷ 11 ∷ []
   pub rising_values : (x y : ℕ) → values_after rising_12 2 (x ∷ y ∷ []) ≡ 0 ∷ 0 ∷ []
   pub falling : domain_answer falling_12 2 2 ≡ Ok (searched Possible 2)
-  pub falling_marks : (old : List ℕ) → marks_after falling_12 2 2 old ≡ 2 ∷ 1 ∷ 1 ∷ 1 ∷ 1 ∷ 2 ∷ 1 ∷ 1 ∷ []
+  pub falling_marks : (old : List Mark) → mark_numbers (marks_after falling_12 2 2 old) ≡ 2 ∷ 1 ∷ 1 ∷ 1 ∷ 1 ∷ 2 ∷ 1 ∷ 1 ∷ []
   pub falling_left : (x y : ℕ) → list_after falling_12 2 (x ∷ y ∷ []) ≡ 0 ∷ 9 ∷ []
   pub falling_values : (x y : ℕ) → values_after falling_12 2 (x ∷ y ∷ []) ≡ 0 ∷ 0 ∷ []
   -- no part of a cleared domain is looked at, whether it has arguments or not
   pub prints_cleared : output_of (bytes "modulus=11\nvalue=5\nslope=0\ncurve=0\ncount=3\nwindow=5\n")
       ≡ bytes "first=cleared\nparts=00000000\nlisted=0\n"
   pub cleared_3 : domain_answer (constant_of 3 5 5) 0 0 ≡ Ok (searched Clear 0)
-  pub cleared_3_marks : (old : List ℕ) → marks_after (constant_of 3 5 5) 0 0 old ≡ replicate 8 0
+  pub cleared_3_marks : (old : List Mark) → mark_numbers (marks_after (constant_of 3 5 5) 0 0 old) ≡ replicate 8 0
   -- no argument, and too many
   pub prints_refused : output_of (bytes "modulus=45\nvalue=44\nslope=31\ncurve=0\ncount=0\nwindow=3\n") ≡ bytes "refused=4\n"
   pub refused_0 : domain_answer (JOf 0) 4096 4096 ≡ Err Count
@@ -292,7 +293,7 @@ pub record WindowsFrom1 : Type 0 where
       ≡ bytes "first=possible\nparts=22233333\nlisted=3\nargument=0 value=44\nargument=1 value=30\nargument=2 value=16\n"
   -- in the call's answers and buffers
   pub domain_0 : (m n : ℕ) → domain_answer (JWith 16 (pos 0) 0) m n ≡ Err Window
-  pub marks_0 : (m n : ℕ) (old : List ℕ) → marks_after (JWith 16 (pos 0) 0) m n old ≡ old
+  pub marks_0 : (m n : ℕ) (old : List Mark) → marks_after (JWith 16 (pos 0) 0) m n old ≡ old
   pub left_0 : (n : ℕ) (old : List ℕ) → list_after (JWith 16 (pos 0) 0) n old ≡ old
   pub values_0 : (m : ℕ) (old : List ℕ) → values_after (JWith 16 (pos 0) 0) m old ≡ old
   pub domain_1 : domain_answer (JWith 16 (pos 0) 1) 0 0 ≡ Ok (searched Clear 0)
@@ -316,11 +317,11 @@ pub record ValuesBesideArguments : Type 0 where
   pub scan_values_short_left : (x y : ℕ) → scan_list_after 45 14 44 16 6 1 (x ∷ y ∷ []) ≡ x ∷ y ∷ []
   pub scan_values_short_values : (x : ℕ) → scan_values_after 45 14 44 16 6 2 (x ∷ []) ≡ x ∷ []
   pub domain_list_short : domain_answer J 1 2 ≡ Err Room
-  pub domain_list_short_marks : (old : List ℕ) → marks_after J 1 2 old ≡ old
+  pub domain_list_short_marks : (old : List Mark) → marks_after J 1 2 old ≡ old
   pub domain_list_short_left : (x : ℕ) → list_after J 2 (x ∷ []) ≡ x ∷ []
   pub domain_list_short_values : (x y : ℕ) → values_after J 1 (x ∷ y ∷ []) ≡ x ∷ y ∷ []
   pub domain_values_short : domain_answer J 2 1 ≡ Err Room
-  pub domain_values_short_marks : (old : List ℕ) → marks_after J 2 1 old ≡ old
+  pub domain_values_short_marks : (old : List Mark) → marks_after J 2 1 old ≡ old
   pub domain_values_short_left : (x y : ℕ) → list_after J 1 (x ∷ y ∷ []) ≡ x ∷ y ∷ []
   pub domain_values_short_values : (x : ℕ) → values_after J 2 (x ∷ []) ≡ x ∷ []
   -- columns of other lengths with places enough in both
@@ -342,13 +343,13 @@ pub record CountedFromTheBinade : Type 0 where
   pub prints : output_of (bytes "origin=4503599627370496\nmodulus=45\nvalue=44\nslope=31\ncurve=0\ncount=16\nwindow=3\n")
       ≡ bytes "first=possible\nparts=22111111\nlisted=2\nargument=4503599627370496 value=44\nargument=4503599627370499 value=2\n"
   pub read : reading (bytes "origin=4503599627370496\nmodulus=45\nvalue=44\nslope=31\ncurve=0\ncount=16\nwindow=3\n")
-      ≡ Read (JFrom 4503599627370496 (pos 0))
+      ≡ Some (JFrom 4503599627370496 (pos 0))
   -- with origin 1, and with origin 0, which is J
   pub prints_1 : output_of (bytes "origin=1\nmodulus=45\nvalue=44\nslope=31\ncurve=0\ncount=16\nwindow=3\n")
       ≡ bytes "first=possible\nparts=22111111\nlisted=2\nargument=1 value=44\nargument=4 value=2\n"
   pub prints_0 : output_of (bytes "origin=0\nmodulus=45\nvalue=44\nslope=31\ncurve=0\ncount=16\nwindow=3\n")
       ≡ bytes "first=possible\nparts=22111111\nlisted=2\nargument=0 value=44\nargument=3 value=2\n"
-  pub read_0 : reading (bytes "origin=0\nmodulus=45\nvalue=44\nslope=31\ncurve=0\ncount=16\nwindow=3\n") ≡ Read J
+  pub read_0 : reading (bytes "origin=0\nmodulus=45\nvalue=44\nslope=31\ncurve=0\ncount=16\nwindow=3\n") ≡ Some J
   -- above 2^52, up to 2^64 - 1, it is 11; 2^64 is malformed
   pub prints_above : output_of (bytes "origin=4503599627370497\nmodulus=45\nvalue=44\nslope=31\ncurve=0\ncount=16\nwindow=3\n") ≡ bytes "refused=11\n"
   pub prints_most : output_of (bytes "origin=18446744073709551615\nmodulus=45\nvalue=44\nslope=31\ncurve=0\ncount=16\nwindow=3\n") ≡ bytes "refused=11\n"
@@ -363,7 +364,7 @@ pub record CountedFromTheBinade : Type 0 where
   pub prints_longer : output_of (bytes "origin=0\nmodulus=45\nvalue=44\nslope=31\ncurve=0\ncount=16\nwindow=3\n\n") ≡ bytes "refused=8\n"
   -- in the call's answers and buffers: marks and values are J's
   pub answered : domain_answer (JFrom 4503599627370496 (pos 0)) 2 2 ≡ Ok (searched Possible 2)
-  pub marks : (old : List ℕ) → marks_after (JFrom 4503599627370496 (pos 0)) 2 2 old ≡ 2 ∷ 2 ∷ 1 ∷ 1 ∷ 1 ∷ 1 ∷ 1 ∷ 1 ∷ []
+  pub marks : (old : List Mark) → mark_numbers (marks_after (JFrom 4503599627370496 (pos 0)) 2 2 old) ≡ 2 ∷ 2 ∷ 1 ∷ 1 ∷ 1 ∷ 1 ∷ 1 ∷ 1 ∷ []
   pub left : (x y z : ℕ) → list_after (JFrom 4503599627370496 (pos 0)) 2 (x ∷ y ∷ z ∷ []) ≡ 4503599627370496 ∷ 4503599627370499 ∷ z ∷ []
   pub values : (x y z : ℕ) → values_after (JFrom 4503599627370496 (pos 0)) 2 (x ∷ y ∷ z ∷ []) ≡ 44 ∷ 2 ∷ z ∷ []
   -- 6 comes before 11, and 11 before 7; the buffers stay as they were
@@ -371,7 +372,7 @@ pub record CountedFromTheBinade : Type 0 where
   pub above_alone : (m n : ℕ) → domain_answer (JFrom 4503599627370497 (pos 0)) m n ≡ Err Origin
   pub most_alone : (m n : ℕ) → domain_answer (JFrom 18446744073709551615 (pos 0)) m n ≡ Err Origin
   pub too_few : domain_answer (JFrom 4503599627370496 (pos 0)) 1 2 ≡ Err Room
-  pub above_marks : (m n : ℕ) (old : List ℕ) → marks_after (JFrom 4503599627370497 (pos 0)) m n old ≡ old
+  pub above_marks : (m n : ℕ) (old : List Mark) → marks_after (JFrom 4503599627370497 (pos 0)) m n old ≡ old
   pub above_left : (n : ℕ) (old : List ℕ) → list_after (JFrom 4503599627370497 (pos 0)) n old ≡ old
   pub above_values : (m : ℕ) (old : List ℕ) → values_after (JFrom 4503599627370497 (pos 0)) m old ≡ old
 
