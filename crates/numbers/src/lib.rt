@@ -1,5 +1,6 @@
-// Mathematics that the other layers share: remainders of numbers and of integers, divisors, parity, sums, Fibonacci numbers, lists, pieces of a stretch, the theory of
-// a partly written buffer, refusals as checklists; and five calls on numbers and integers.
+// Mathematics that the other layers share: remainders of numbers and of integers, divisors, parity,
+// sums, Fibonacci numbers, lists, pieces of a stretch, the theory of a partly written buffer, refusals
+// by name and as checklists; and calls on numbers and integers.
 #![tactic(auto)]
 
 ghost use Rattle.std.specs.Prelude.{◌≡◌, ◌+◌, ◌-◌, ◌%◌, ◌^◌, ◌<◌, ◌≤◌, min, nat_abs};
@@ -9,8 +10,8 @@ mod refusals;
 
 pub use refusals::Refusal;
 
-// The remainder of a number. Nearly all that come here are below the modulus already, which the test tells sooner than a division. By 0 nothing
-// is taken off.
+// The remainder of a number. Nearly all that come here are below the modulus already, which the test
+// tells sooner than a division. By 0 nothing is taken off.
 pub fn reduce(number: u64, modulus: u64) -> u64
     ensures { result ≡ number % modulus }
 {
@@ -23,7 +24,8 @@ pub fn reduce(number: u64, modulus: u64) -> u64
     number % modulus
 }
 
-// The remainder of a signed number. That of a negative number counts down from the modulus; -1 - number does not overflow.
+// The remainder of a signed number. That of a negative number counts down from the modulus;
+// -1 - number does not overflow.
 pub fn remainder(number: i64, modulus: u64) -> u64
     ensures { result ≡ number modulo modulus }
 {
