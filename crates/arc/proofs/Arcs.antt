@@ -44,9 +44,6 @@ module _ {p : Parabola} (range : InRange p) where
     pub arc_read : read (read p.curve *ℤ to_z w64 (triangle x)) ≡ p.curve *ℤ pos (triangle x)
     arc_read = product_read p.curve (triangle x) range.size_small (arc_most range x within) (triangle_most x within)
 
-    pub rise_fits : SFits w64 (read p.curve *ℤ to_z w64 x)
-    rise_fits = product_fits p.curve x range.size_small (omega (arith, rise_most range x within)) (omega arith)
-
     pub rise_read : read (read p.curve *ℤ to_z w64 x) ≡ p.curve *ℤ pos x
     rise_read = product_read p.curve x range.size_small (omega (arith, rise_most range x within)) (omega arith)
 

@@ -41,6 +41,7 @@ const LARGEST_CURVE: u64 = 1048576;
 
 // The first condition that does not hold: those of the segment with the slope for its step and the
 // value for its start, then a curve from -1,048,576 to 1,048,576.
+// It takes no arc, since a window of 0 is refused here, and no highest hard value says that.
 pub fn refuse(
     modulus: u64,
     value: u64,

@@ -119,8 +119,12 @@ scan_accepts s m n =
 abbrev Leaves : (number origin raise : ℕ) → Parabola → (old_marks : List Mark) → (old old_values : List ℕ) → (answer : Result Searched Refusal)
     → (new_marks : List Mark) → (new new_values : List ℕ) → Type 0
 Leaves n origin raise p old_marks old old_values answer new_marks new new_values =
-    (answer ≡ answer_with n p)
-    × ((new_marks ≡ marks_with n p old_marks) × ((new ≡ list_with n origin p old) × (new_values ≡ values_with n raise p old_values)))
+    record {
+      value : answer ≡ answer_with n p;
+      marks_after : new_marks ≡ marks_with n p old_marks;
+      list_after : new ≡ list_with n origin p old;
+      values_after : new_values ≡ values_with n raise p old_values;
+    }
 
 -- a number that refuses leaves a buffer as it was
 kept : {A : Type 0} (n : ℕ) (a : A) {r : Refusal} → outcome n a ≡ Err r → {B : Type 0} (new old : B) → old ≡ unless_refused n new old
@@ -134,14 +138,14 @@ module _ (p : Parabola) (origin raise : ℕ) (old_marks : List Mark) (old old_va
   unfolding too_few
   parts_refused h =
       let e = room_refused (hard_list p) (length old) (length old_values) (found p) h in
-      (sym e, (kept _ _ e _ old_marks, (kept _ _ e _ old, kept _ _ e _ old_values)))
+      record { value = sym e; marks_after = kept _ _ e _ old_marks; list_after = kept _ _ e _ old; values_after = kept _ _ e _ old_values }
 
   pub parts_searched : verdict regular (covering p) ≡ Possible → Room (hard_list p) (length old) (length old_values) → {r : Report} → r ≡ report p
       → {new new_values : List ℕ} → (new ≡ overwrite_front (listed_from origin p) old) × (new_values ≡ overwrite_front (lowered_values raise p) old_values)
       → Leaves (too_few p (length old) (length old_values)) origin raise p old_marks old old_values (Ok (record { first = Possible; listed = r.total })) r.marks new new_values
   unfolding too_few outcome unless_refused report marks_by
   parts_searched v h e f =
-      rw (accepted (room (hard_list p) (length old) (length old_values)) (h, tt), v, e, f.0, f.1) (refl, (refl, (refl, refl)))
+      rw (accepted (room (hard_list p) (length old) (length old_values)) (h, tt), v, e, f.0, f.1) (record { value = refl; marks_after = refl; list_after = refl; values_after = refl })
 
 -- ---- the whole domain
 
@@ -168,9 +172,12 @@ values_lowered d a =
 abbrev Answered : Domain → (old_marks : List Mark) → (old old_values : List ℕ) → (answer : Result Searched Refusal) → (new_marks : List Mark)
     → (new new_values : List ℕ) → Type 0
 Answered d old_marks old old_values answer new_marks new new_values =
-    (answer ≡ domain_answer d (length old) (length old_values))
-    × ((new_marks ≡ marks_after d (length old) (length old_values) old_marks)
-    × ((new ≡ list_after d (length old_values) old) × (new_values ≡ values_after d (length old) old_values)))
+    record {
+      value : answer ≡ domain_answer d (length old) (length old_values);
+      marks_after : new_marks ≡ marks_after d (length old) (length old_values) old_marks;
+      list_after : new ≡ list_after d (length old_values) old;
+      values_after : new_values ≡ values_after d (length old) old_values;
+    }
 
 module _ (d : Domain) (old_marks : List Mark) (old old_values : List ℕ) where
   -- a refusal before anything is searched
@@ -178,7 +185,12 @@ module _ (d : Domain) (old_marks : List Mark) (old old_values : List ℕ) where
   unfolding domain_answer marks_after list_after values_after domain_number
   own_refused e =
       let f = refused_first (own_checks d) (room (hard_arguments d) (length old) (length old_values)) tt e in
-      (sym (refused_alike _ tt _ f), (kept _ _ f _ old_marks, (kept _ _ f _ old, kept _ _ f _ old_values)))
+      record {
+        value = sym (refused_alike _ tt _ f);
+        marks_after = kept _ _ f _ old_marks;
+        list_after = kept _ _ f _ old;
+        values_after = kept _ _ f _ old_values;
+      }
 
   -- of the parabola
   pub domain_refused : {r : Refusal} → tested (arc.refusal (parabola_of d)) ≡ Err r
@@ -222,7 +234,7 @@ module _ (d : Domain) (old_marks : List Mark) (old old_values : List ℕ) where
         let v : verdict regular (covering_of d) ≡ Clear = ap (λ (p : Parabola). verdict regular (covering p)) (sym e) ∙ c in
         let nothing : hard_arguments d ≡ [] = none_listed regular (searched_in_range d a.searchable) v in
         let none : length (hard_arguments d) ≡ 0 = ap length nothing in
-        rw (number_is, accepted (room (hard_arguments d) (length old) (length old_values)) ((omega arith, omega arith), tt), v, nothing) (refl, (refl, (refl, refl)))
+        rw (number_is, accepted (room (hard_arguments d) (length old) (length old_values)) ((omega arith, omega arith), tt), v, nothing) (record { value = refl; marks_after = refl; list_after = refl; values_after = refl })
 
     -- or it does not: so it is where every value is hard, as then the first argument is
     pub never_cleared : {b : Arc} → parabola b ≡ centred_of d → b.highest ≡ d.modulus - 1 → verdict regular (covering (parabola b)) ≡ Possible
@@ -250,9 +262,11 @@ line_in_range {s} c = omega (arith, mod-lt (s.unit - s.step) {m = s.unit} (omega
 -- the answer, the list and the values
 abbrev ScanLeaves : (number : ℕ) → Segment → (old old_values : List ℕ) → (answer : Result ℕ Refusal) → (new new_values : List ℕ) → Type 0
 ScanLeaves n s old old_values answer new new_values =
-    (answer ≡ outcome n (length (geometry.hard_list s)))
-    × ((new ≡ unless_refused n (overwrite_front (geometry.hard_list s) old) old)
-    × (new_values ≡ unless_refused n (overwrite_front (hard_residues s) old_values) old_values))
+    record {
+      value : answer ≡ outcome n (length (geometry.hard_list s));
+      list_after : new ≡ unless_refused n (overwrite_front (geometry.hard_list s) old) old;
+      values_after : new_values ≡ unless_refused n (overwrite_front (hard_residues s) old_values) old_values;
+    }
 
 -- nothing is added
 add_nothing : (xs : List ℕ) → map (λ (x : ℕ). 0 + x) xs ≡ xs
@@ -277,7 +291,7 @@ module _ (s : Segment) (old old_values : List ℕ) where
   unfolding scan_number segment.refusal
   scan_refused e =
       let f = refused_first (segment.checks s) (room (geometry.hard_list s) (length old) (length old_values)) tt e in
-      (sym (refused_alike _ tt _ f), (kept _ _ f _ old, kept _ _ f _ old_values))
+      record { value = sym (refused_alike _ tt _ f); list_after = kept _ _ f _ old; values_after = kept _ _ f _ old_values }
 
   module _ (c : segment.Accepted s) where
     number_of_room : {n : ℕ} → first_failing (room (geometry.hard_list s) (length old) (length old_values)) ≡ n
@@ -292,7 +306,7 @@ module _ (s : Segment) (old old_values : List ℕ) where
         → ScanLeaves (scan_number s (length old) (length old_values)) s old old_values (Err refusals.Room) old old_values
     scan_too_few h =
         let e = room_refused (geometry.hard_list s) (length old) (length old_values) (length (geometry.hard_list s)) h in
-        rw (number_of_room refl) (sym e, (kept _ _ e _ old, kept _ _ e _ old_values))
+        rw (number_of_room refl) (record { value = sym e; list_after = kept _ _ e _ old; values_after = kept _ _ e _ old_values })
 
     pub scan_listed : Room (geometry.hard_list s) (length old) (length old_values) → {n : ℕ} → n ≡ length (geometry.hard_list s) → {new new_values : List ℕ}
         → (new ≡ sets old 0 (listed_from 0 (line s))) × (new_values ≡ sets old_values 0 (lowered_values 0 (line s)))
@@ -300,11 +314,9 @@ module _ (s : Segment) (old old_values : List ℕ) where
     unfolding outcome unless_refused
     scan_listed h f g =
         let of_line = (parabola_promises.promised).lines s c.step_below in
-        rw (number_of_room (accepted (room (geometry.hard_list s) (length old) (length old_values)) (h, tt)), f) (
-          refl,
-          (
-            g.0 ∙ ap (sets old 0) (add_nothing (hard_list (line s)) ∙ of_line.lists) ∙ written_front (geometry.hard_list s) old h.0,
-            g.1 ∙ ap (sets old_values 0) (residues_as_they_are c)
-                ∙ written_front (hard_residues s) old_values (omega (arith, h.1, length-map (geometry.hard_list s) (residue s))),
-          ),
-        )
+        rw (number_of_room (accepted (room (geometry.hard_list s) (length old) (length old_values)) (h, tt)), f) (record {
+          value = refl;
+          list_after = g.0 ∙ ap (sets old 0) (add_nothing (hard_list (line s)) ∙ of_line.lists) ∙ written_front (geometry.hard_list s) old h.0;
+          values_after = g.1 ∙ ap (sets old_values 0) (residues_as_they_are c)
+              ∙ written_front (hard_residues s) old_values (omega (arith, h.1, length-map (geometry.hard_list s) (residue s)));
+        })

@@ -46,10 +46,6 @@ pub one_more : (i rest : ℕ) → bool_byte (ltb i rest) ≡ min 1 (rest - i)
 one_more i rest =
     by_cases (dec_lt i rest) (λ l. rw (lt-ltb i rest l) (omega arith)) (λ l. rw (le-ltb i rest (omega arith)) (omega arith))
 
--- no part begins after 2^20 arguments
-pub start_most : {N i : ℕ} → N ≤ 1048576 → i < 8 → part_start N i ≤ 1048576
-start_most {N} {i} most h = omega (arith, (promised.eight_parts N).pieces.within i (omega arith))
-
 module _ (a : Arc) {i : ℕ} (h : i < 8) (some : 1 ≤ part_count a.count i) where
   -- a part with arguments begins at one of the whole
   pub begins_below : part_start a.count i < a.count

@@ -37,14 +37,13 @@ unfolding scan_answer scan_list_after scan_values_after
 returns-in_err-refuse c =
     let e = err_from_is_err_and c.from_residual.result c.from_residual.ensures.1 in
     let l = scan_refused _ c.args.list.now c.args.values.now (sym c.refuse.ensures ∙ c.in_err-refuse.was) in
-    record { value = rw (e.1, e.2) l.0; list_after = l.1.0; values_after = l.1.1 }
+    record { value = rw (e.1, e.2) l.value; list_after = l.list_after; values_after = l.values_after }
 
 pub returns-then-places-listed : goal.returns-then-places-listed
 unfolding scan_answer scan_list_after scan_values_after
 returns-then-places-listed c =
     let at = (goal.at.returns-then-places-listed c).After-count_hard-listed in
-    let l = scan_too_few _ _ _ (accepted at) (omega (arith, counted at, c.min-places.ensures, c.if-places-listed.true)) in
-    record { value = l.0; list_after = l.1.0; values_after = l.1.1 }
+    scan_too_few _ _ _ (accepted at) (omega (arith, counted at, c.min-places.ensures, c.if-places-listed.true))
 
 pub list_all-requires : goal.list_all-requires
 list_all-requires c =
@@ -71,16 +70,14 @@ pub returns-then-listed-segment : goal.returns-then-listed-segment
 unfolding scan_answer scan_list_after scan_values_after
 returns-then-listed-segment c =
     let at = (goal.at.returns-then-listed-segment c).After-count_hard-listed in
-    let l = scan_listed _ _ _ (accepted at) (room _ c.min-places.ensures c.if-places-listed.false (counted at)) (counted at)
-    (rw c.line-line.ensures.made at c.list_all.ensures.list_after, rw c.line-line.ensures.made at c.list_all.ensures.values_after) in
-    record { value = l.0; list_after = l.1.0; values_after = l.1.1 }
+    scan_listed _ _ _ (accepted at) (room _ c.min-places.ensures c.if-places-listed.false (counted at)) (counted at)
+    (rw c.line-line.ensures.made at c.list_all.ensures.list_after, rw c.line-line.ensures.made at c.list_all.ensures.values_after)
 
 pub returns : goal.returns
 unfolding scan_answer scan_list_after scan_values_after
 returns c =
     let at = (goal.at.returns c).After-count_hard-listed in
-    let l = scan_listed _ _ _ (accepted at) (room _ c.min-places.ensures c.if-places-listed.false (counted at)) (counted at) (
+    scan_listed _ _ _ (accepted at) (room _ c.min-places.ensures c.if-places-listed.false (counted at)) (counted at) (
       rw (c.line-line.ensures.made, c.line-line.ensures.begin) at c.list_hard.ensures.list_after,
       rw (c.line-line.ensures.made, c.line-line.ensures.raise) at c.list_hard.ensures.values_after,
-    ) in
-    record { value = l.0; list_after = l.1.0; values_after = l.1.1 }
+    )

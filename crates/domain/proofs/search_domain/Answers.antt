@@ -33,13 +33,12 @@ returns-in_err-refuse c =
     let e = err_from_is_err_and c.from_residual.result c.from_residual.ensures.1 in
     let l = domain_refused c.args.domain c.args.marks.now c.args.list.now c.args.values.now
     (test_is c.args.domain (sym c.refuse.ensures ∙ c.in_err-refuse.was) (search rules)) in
-    record { value = rw (e.1, e.2) l.0; marks_after = l.1.0; list_after = l.1.1.0; values_after = l.1.1.1 }
+    record { value = rw (e.1, e.2) l.value; marks_after = l.marks_after; list_after = l.list_after; values_after = l.values_after }
 
 pub returns-then-domain-gt-LARGEST_ORIGIN : goal.returns-then-domain-gt-LARGEST_ORIGIN
 returns-then-domain-gt-LARGEST_ORIGIN c =
     let s = searchable (goal.at.returns-then-domain-gt-LARGEST_ORIGIN c).In_ok-refuse in
-    let l = origin_refused c.args.domain c.args.marks.now c.args.list.now c.args.values.now s c.if-domain-gt-LARGEST_ORIGIN.true in
-    record { value = l.0; marks_after = l.1.0; list_after = l.1.1.0; values_after = l.1.1.1 }
+    origin_refused c.args.domain c.args.marks.now c.args.list.now c.args.values.now s c.if-domain-gt-LARGEST_ORIGIN.true
 
 pub centred-scan-requires : goal.centred-scan-requires
 centred-scan-requires c = taken_on (goal.at.centred-scan-requires c).In_ok-refuse c.if-domain-gt-LARGEST_ORIGIN.false
@@ -55,28 +54,23 @@ search_parts-requires c =
 
 pub returns-then-scan-domain : goal.returns-then-scan-domain
 returns-then-scan-domain c =
-    let s = c.search_parts.ensures in
     let e = c.centred-scan.ensures in
-    let l = domain_searched c.args.domain c.args.marks.now c.args.list.now c.args.values.now
+    domain_searched c.args.domain c.args.marks.now c.args.list.now c.args.values.now
     (taken_on (goal.at.returns-then-scan-domain c).In_ok-refuse c.if-domain-gt-LARGEST_ORIGIN.false)
-    e.made e.raise e.begin (s.value, (s.marks_after, (s.list_after, s.values_after))) in
-    record { value = l.0; marks_after = l.1.0; list_after = l.1.1.0; values_after = l.1.1.1 }
+    e.made e.raise e.begin c.search_parts.ensures
 
 pub returns-in-Clear : goal.returns-in-Clear
 returns-in-Clear c =
-    let l = domain_cleared c.args.domain c.args.marks.now c.args.list.now c.args.values.now
+    domain_cleared c.args.domain c.args.marks.now c.args.list.now c.args.values.now
     (taken_on (goal.at.returns-in-Clear c).In_ok-refuse c.if-domain-gt-LARGEST_ORIGIN.false)
-    c.centred-scan.ensures.made (sym c.regular_verdict.ensures ∙ c.in-Clear.is) in
-    record { value = l.0; marks_after = l.1.0; list_after = l.1.1.0; values_after = l.1.1.1 }
+    c.centred-scan.ensures.made (sym c.regular_verdict.ensures ∙ c.in-Clear.is)
 
 pub search_parts-requires-in-Possible : goal.search_parts-requires-in-Possible
 search_parts-requires-in-Possible c = sym c.regular_verdict.ensures ∙ c.in-Possible.is
 
 pub returns-in-Possible : goal.returns-in-Possible
 returns-in-Possible c =
-    let s = c.search_parts-in-Possible.ensures in
     let e = c.centred-scan.ensures in
-    let l = domain_searched c.args.domain c.args.marks.now c.args.list.now c.args.values.now
+    domain_searched c.args.domain c.args.marks.now c.args.list.now c.args.values.now
     (taken_on (goal.at.returns-in-Possible c).In_ok-refuse c.if-domain-gt-LARGEST_ORIGIN.false)
-    e.made e.raise e.begin (s.value, (s.marks_after, (s.list_after, s.values_after))) in
-    record { value = l.0; marks_after = l.1.0; list_after = l.1.1.0; values_after = l.1.1.1 }
+    e.made e.raise e.begin c.search_parts-in-Possible.ensures

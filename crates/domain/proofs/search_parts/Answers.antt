@@ -24,8 +24,7 @@ module _ (p : Parabola) {r : Report} (e : r ≡ report p) where
 
 pub returns-then-places-report : goal.returns-then-places-report
 returns-then-places-report c =
-    let l = parts_refused _ _ _ _ _ _ (omega (arith, c.if-places-report.true, c.min-places.ensures, total_is (parabola c.args.scan.within.arc) c.examine_parts-report.ensures)) in
-    record { value = l.0; marks_after = l.1.0; list_after = l.1.1.0; values_after = l.1.1.1 }
+    parts_refused _ _ _ _ _ _ (omega (arith, c.if-places-report.true, c.min-places.ensures, total_is (parabola c.args.scan.within.arc) c.examine_parts-report.ensures))
 
 pub list_parts-requires : goal.list_parts-requires
 list_parts-requires c =
@@ -38,6 +37,5 @@ list_parts-requires c =
 
 pub returns : goal.returns
 returns c =
-    let l = parts_searched _ _ _ _ _ _ c.requires (enough (parabola c.args.scan.within.arc) c.examine_parts-report.ensures c.min-places.ensures c.if-places-report.false)
-    c.examine_parts-report.ensures (c.list_parts.ensures.list_after, c.list_parts.ensures.values_after) in
-    record { value = l.0; marks_after = l.1.0; list_after = l.1.1.0; values_after = l.1.1.1 }
+    parts_searched _ _ _ _ _ _ c.requires (enough (parabola c.args.scan.within.arc) c.examine_parts-report.ensures c.min-places.ensures c.if-places-report.false)
+    c.examine_parts-report.ensures (c.list_parts.ensures.list_after, c.list_parts.ensures.values_after)
