@@ -268,7 +268,11 @@ pub extern "C" fn geyserdish_range(list: &[u64], lo: u64, hi: u64, start: &mut u
 fn numbers_of(marks: [Mark; 8]) -> [u8; 8]
     ensures { result ≡ mark_numbers marks }
 {
-    marks.map(|mark| -> u8 ensures { result ≡ mark_number mark } { u8::from(mark) })
+    marks.map(
+        |mark| -> u8
+            ensures { result ≡ mark_number mark }
+        { u8::from(mark) },
+    )
 }
 
 // Clear is 1 in C, and possible 0.
