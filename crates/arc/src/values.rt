@@ -6,6 +6,7 @@ ghost use Rattle.arc.specs.Arc.{parabola};
 use crate::Within;
 use numbers::{add, remainder};
 
+// The bound on x stays a `requires` of each: a type for a number up to 2^20 would be no plainer.
 impl Within {
     // V(x)
     pub(crate) fn value_at(self, x: u64) -> u64
@@ -30,7 +31,8 @@ impl Within {
     }
 }
 
-// a times a number, by doubling a for each binary digit of the number
+// a times a number, by doubling a for each binary digit of the number. No index is counted: the loop
+// ends when no digit is left.
 fn times(a: u64, number: u64, modulus: u64) -> u64
     requires { (a < modulus) × (modulus ≤ 2 ^ 62) }
     ensures { result ≡ a * number % modulus }

@@ -264,7 +264,7 @@ pub extern "C" fn geyserdish_range(list: &[u64], lo: u64, hi: u64, start: &mut u
     part.len() as u64
 }
 
-// Marks by their numbers, as C has them.
+// Marks by their numbers, as the C interface has them.
 fn numbers_of(marks: [Mark; 8]) -> [u8; 8]
     ensures { result ≡ mark_numbers marks }
 {
@@ -275,7 +275,7 @@ fn numbers_of(marks: [Mark; 8]) -> [u8; 8]
     )
 }
 
-// Clear is 1 in C, and possible 0.
+// Clear is 1 and possible 0: numbers of the C interface, and no conversion of the search's own.
 fn number_of(verdict: segment::Verdict) -> u64
     ensures { result ≡ verdict_number verdict }
 {

@@ -111,7 +111,8 @@ fn line(segment: Segment) -> Scan
 // or a value that is not below it (by the names `Step` and `Start`), else for a count outside 1 to
 // 1,048,576, else for a window outside 1 to the modulus, else for a curve outside -1,048,576 to
 // 1,048,576, else for an origin above 2^52, else for room where the list or the values have fewer
-// places than there are hard arguments. On a refusal marks, list and values are as they were.
+// places than there are hard arguments. On a refusal marks, list and values are as they were. List
+// and values are two buffers, and no list of pairs: C lends them so.
 pub fn search_domain(
     domain: Domain,
     marks: &mut [Mark; 8],

@@ -29,7 +29,8 @@ pub(crate) struct Report {
     pub(crate) total: u32,
 }
 
-// Where a part begins.
+// Where a part begins. A part's number is below 8, here and below: a struct around it would say no
+// more, and be no plainer.
 fn part_start(count: u64, i: u64) -> u64
     requires count_bound { count ≤ 1048576 }
     requires is_part { i < 8 }

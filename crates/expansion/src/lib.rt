@@ -8,7 +8,8 @@ ghost use Rattle.expansion.specs.Answer.{refusal, table_of, answer};
 
 use numbers::Refusal;
 
-// Rows 0 to last: remainder, denominator of the convergent, quotient drawn. Every place after the last row is 0.
+// Rows 0 to last: remainder, denominator of the convergent, quotient drawn. Every place after the last
+// row is 0. Three arrays of a fixed size with the last row's index: the product's rules name them.
 #[derive(Drop)]
 pub struct Table {
     pub remainders: [u64; 89],

@@ -43,7 +43,7 @@ fn put_first(first: segment::Verdict, out: &mut Writer)
     out.put_byte(b'\n');
 }
 
-// What a verdict is called.
+// What a verdict is called. No Display: std's formatter knows nothing of a writer's places.
 #[tactic(auto, unfolding(crate::specs::Output::verdict_name))]
 fn put_verdict(verdict: segment::Verdict, out: &mut Writer)
     ensures { Wrote out.old (verdict_name verdict) out.new }

@@ -10,7 +10,8 @@ ghost use Rattle.ostrowski.specs.Answer.{digits_answer, residue_answer, divide_a
 use expansion::Table;
 use numbers::Refusal;
 
-// The digits of an argument from row 0 on and zeros after them, and how many they are.
+// The digits of an argument from row 0 on and zeros after them, and how many they are. An array of a
+// fixed size with a count: the product's rules give the answer 88 places, and no call takes a heap.
 #[derive(Drop)]
 pub struct Numeral {
     pub digits: [u64; 88],
@@ -89,6 +90,7 @@ pub fn divide(modulus: u64, step: u64, target: u64) -> Result<u64, Refusal>
     let (mut same, mut other) = (0, 0);
     let mut rest = target;
     let mut is_odd = false;
+    // Euclid's loop: it ends at a remainder of 0, and not at an index.
     while remainder != 0 {
         let next = denominator_before + before / remainder * denominator;
         let joined = same + rest / remainder * denominator;

@@ -77,7 +77,7 @@ pub fn regular_search(segment: Segment) -> Result<Regular, Refusal>
 }
 
 // The fine search: the same over the fine configurations, so that it stops at no more points; refused
-// in the same cases.
+// in the same cases. Two calls, as C has them, over one loop: what they show differs in its fields.
 pub fn fine_search(segment: Segment) -> Result<Fine, Refusal>
     ensures { result ≡ fine_answer segment.modulus segment.step segment.start segment.count segment.window }
 {

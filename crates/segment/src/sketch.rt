@@ -12,7 +12,8 @@ use crate::state::State;
 use crate::walk::Walk;
 
 // What a verdict needs of a state. wide: at an odd row, whether the start lies in a long gap. Once
-// done, only the distance has a meaning: it is that of the search.
+// done, only the distance has a meaning: it is that of the search. Flags, and no variants of an enum:
+// an odd row selects by the one without a branch, and a row makes the other with all its numbers.
 #[derive(Clone, Copy)]
 pub(crate) struct Sketch {
     pub(crate) long: u64,

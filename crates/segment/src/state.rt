@@ -17,7 +17,8 @@ use numbers::{min, saturating_sub};
 
 // longs gaps of length long and shorts gaps of length short, after part cuts of the row index; the
 // argument of least residue below the count longs + shorts, and its residue, the distance. Done:
-// this is the configuration that the search reaches.
+// this is the configuration that the search reaches. A flag, and no variant of an enum: the same
+// numbers are there and read in both cases.
 #[derive(Clone, Copy)]
 pub(crate) struct State {
     pub(crate) long: u64,
