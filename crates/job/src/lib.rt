@@ -68,7 +68,7 @@ pub fn run_job(text: &[u8], out: &mut [u8; LONGEST]) -> usize
 {
     let mut writer = Writer::new(out);
     print_answer(read_job(text), &mut writer);
-    writer.written()
+    writer.place()
 }
 
 // Prints the answer to a job, or the refusal of a text that is none.

@@ -7,6 +7,8 @@ use native.Mathlib.Omega.{arith}
 use lib.ListN.{length, take, drop, length-drop, length-take}
 use lib.Seq.{sets, sets-eq, length-sets}
 use Rattle.std.proofs.Common.{take-append-drop, ◌∙◌}
+use mathlib.Core.Logic.{by_cases}
+use native.Mathlib.Decide.{dec_le}
 use Rattle.std.proofs.lemmas.Grind.{common_steps}
 use borrow.Rule.Slice.PartMut.{put_mid}
 use Rattle.numbers.specs.Lists.{place_after}
@@ -16,19 +18,22 @@ use Rattle.text.specs.declared.writer.Writer.{Writer}
 
 -- ---- bytes
 
--- the bytes that have a place, n of them, are written
-pub front_written : (bytes old part : List ℕ) (at n : ℕ) → at ≤ length old → n ≡ min (length bytes) (length old - at) → part ≡ take n bytes
-    → put_mid at (at + n - at) old part ≡ sets old at bytes
-front_written bytes old part at n h m p =
+-- the bytes that have a place, n of them, are written; nothing is where the place is beyond the end
+pub front_written : (bytes old part : List ℕ) (at start n : ℕ) → start ≡ min at (length old) → n ≡ min (length bytes) (length old - start)
+    → part ≡ take n bytes → put_mid start (start + n - start) old part ≡ sets old at bytes
+front_written bytes old part at start n s m p =
     let l : length (take n bytes) ≡ n = omega (arith, length-take n bytes) in
-    let now : put_mid at (at + n - at) old part ≡ sets old at (take n bytes) =
-    rw (p, sets-eq (take n bytes) old at (omega arith)) (grind (arith, common_steps)) in
+    let now : put_mid start (start + n - start) old part ≡ sets old start (take n bytes) =
+    rw (p, sets-eq (take n bytes) old start (omega arith)) (grind (arith, common_steps)) in
+    now ∙ by_cases (dec_le at (length old))
+    (λ h. let same : start ≡ at = omega arith in
     let cut = clip_restate (sym (take-append-drop n bytes)) (clip_begin bytes old at) in
-    let front = clip_list (take n bytes) (drop n bytes) cut (the_place l, refl) in
-    now ∙ (clip_full front (omega (arith, length-drop n bytes, length-sets old at (take n bytes)))).1
+    let front = clip_list (take n bytes) (drop n bytes) cut (the_place h, refl) in
+    rw same (clip_full front (omega (arith, length-drop n bytes, length-sets old at (take n bytes)))).1)
+    (λ h. let none : n ≡ 0 = omega arith in rw none (clip_full (clip_begin bytes old at) (omega arith)).1)
   where
-    the_place : length (take n bytes) ≡ n → at + n ≡ place_after at (take n bytes) old
-    the_place l = omega arith
+    the_place : at ≤ length old → at + n ≡ place_after at (take n bytes) old
+    the_place h = omega (arith, length-take n bytes)
 
 -- ---- one after another
 

@@ -1,12 +1,12 @@
 // Bytes, decimal numbers and lines, written one after another into a buffer.
-ghost use Rattle.std.specs.Prelude.{◌≡◌, ◌≤◌, [], ◌∷◌, length};
+ghost use Rattle.std.specs.Prelude.{◌≡◌, [], ◌∷◌};
 
-// A buffer, and the place from which on it is written, as far as it has places.
+// A buffer, and the place from which on it is written, as far as it has places. Beyond its end, a
+// writer writes nothing.
 #[derive(Drop)]
 pub struct Writer<'a> {
     out: &'a mut [u8],
     at: usize,
-    ghost within: { at ≤ length out.now },
 }
 
 impl<'a> Writer<'a> {
@@ -22,8 +22,17 @@ impl<'a> Writer<'a> {
         Writer { out, at: 0 }
     }
 
-    // How many bytes were written.
-    pub fn written(&self) -> usize
+    // Writes from a place on, which may be beyond the end.
+    pub fn starting_at(out: &'a mut [u8], at: usize) -> Writer<'a>
+        ensures same_buffer { result.out.ghost_name ≡ out.entry.ghost_name }
+        ensures bytes { result.out.now ≡ out.old }
+        ensures place { result.at ≡ at }
+    {
+        Writer { out, at }
+    }
+
+    // The place after what was written.
+    pub fn place(&self) -> usize
         ensures { result ≡ self.now.at }
     {
         self.at
@@ -34,8 +43,9 @@ impl<'a> Writer<'a> {
     pub fn put(&mut self, bytes: &[u8])
         ensures { Wrote self.old bytes.now self.new }
     {
-        let n = bytes.len().min(self.out.len() - self.at);
-        self.out[self.at..self.at + n].copy_from_slice(&bytes[..n]);
+        let start = self.at.min(self.out.len());
+        let n = bytes.len().min(self.out.len() - start);
+        self.out[start..start + n].copy_from_slice(&bytes[..n]);
         self.at += n;
     }
 
