@@ -27,6 +27,7 @@ arc_correct a =
     record {
       numbers = (refl, refl, refl, refl, refl);
       highest = λ v. (λ h. omega arith, λ h. omega arith);
+      point_is = λ x range. refl;
       inside = λ x range h. inside a x ((accepted (parabola a)).1 range) h;
       outside = λ x. (
         λ e range h. (outside a x).0 e ((accepted (parabola a)).1 range) h,

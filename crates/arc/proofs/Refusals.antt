@@ -5,10 +5,10 @@ use Prim.Native.Nat.{ℕ, suc}
 use native.Mathlib.Omega.{arith}
 use Rattle.std.proofs.Common.{Ok, Err}
 use Rattle.numbers.specs.Checklist.{conditions, RefusedBy}
-use Rattle.numbers.specs.Refusals.{number_of, named, IsNamed, tested}
+use Rattle.numbers.specs.Refusals.{number_of, named, tested}
 use Rattle.numbers.specs.declared.refusals.Refusal.{Refusal}
 use Rattle.numbers.proofs.Checklists.{AllNumbers, accepts, refuses}
-use Rattle.numbers.proofs.Outcomes.{tested_accepted, outcome_refuses}
+use Rattle.numbers.proofs.Outcomes.{IsNamed, tested_accepted, outcome_refuses}
 use Rattle.parabola.specs.Parabola.{Parabola, InRange}
 use Rattle.arc.specs.Arc.{checks, refusal}
 use Rattle.arc.specs.Promise.{Asked}

@@ -9,7 +9,7 @@ use Rattle.segment.specs.Accepted as segment
 use Rattle.segment.specs.Search.{verdict}
 use Rattle.segment.specs.declared.Verdict.TheVariants.{Clear}
 use Rattle.parabola.specs.Parabola.{Parabola, InRange, value_at, covering}
-use Rattle.arc.specs.Arc.{asked, parabola, refusal, point_answer, arc_verdict}
+use Rattle.arc.specs.Arc.{asked, parabola, refusal, point, point_answer, arc_verdict}
 use Rattle.arc.specs.declared.Arc.{Arc}
 
 -- ---- bounds
@@ -52,6 +52,12 @@ pub record ArcCorrect (a : Arc) : Type 0 where
         value = (pos a.value +ℤ pos a.slope *ℤ pos x +ℤ a.curve *ℤ pos (x * (x - 1) / 2)) modulo a.modulus;
         slope = (pos a.slope +ℤ a.curve *ℤ pos x) modulo a.modulus;
       })
+  -- the same beyond the last argument, where the call has no answer and `Within::point_at` has
+  pub point_is : (x : ℕ) → InRange (parabola a)
+      → point (parabola a) x ≡ record {
+        value = (pos a.value +ℤ pos a.slope *ℤ pos x +ℤ a.curve *ℤ pos (x * (x - 1) / 2)) modulo a.modulus;
+        slope = (pos a.slope +ℤ a.curve *ℤ pos x) modulo a.modulus;
+      }
   pub outside : (x : ℕ) → (point_answer a x ≡ None) ↔ (InRange (parabola a) → x < a.count → ⊥)
   -- within the bounds a verdict is that of a search of the covering segment; an arc outside them is never clear, and clear leaves no
   -- argument with a hard value

@@ -1,5 +1,5 @@
 -- What is returned and left in memory after a refusal and after an answer. Assumes nothing.
-use Rattle.std.proofs.Common.{◌≡◌, ◌∙◌, ℕ, suc, List, Result, Ok, Err, refl, sym, ap, arith}
+use Rattle.std.proofs.Common.{◌≡◌, ◌∙◌, ℕ, suc, List, Result, Ok, Err, refl, ap, arith}
 use Rattle.numbers.specs.Refusals.{number_of, number_in}
 use Rattle.numbers.specs.declared.refusals.Refusal.{Refusal}
 use Rattle.numbers.proofs.Checklists.{unrefused_new}

@@ -1,11 +1,11 @@
 -- What is promised of the C functions. Assumes nothing.
 use Rattle.std.proofs.Common.{◌≡◌, ◌↔◌, ℕ, suc, ◌*◌, ◌%◌, List, length, Result, Ok, Err, IsOkAnd, ◌<◌, refl, sym, ap, ◌∙◌, arith}
 use Rattle.numbers.specs.Checklist.{Check, conditions, first_failing, AllHold, RefusedBy, unless_refused}
-use Rattle.numbers.specs.Refusals.{named, IsNamed, outcome, number_in}
+use Rattle.numbers.specs.Refusals.{named, outcome, number_in}
 use Rattle.numbers.specs.declared.refusals.Refusal.{Refusal}
 use Rattle.numbers.proofs.Equivalences.{through}
-use Rattle.numbers.proofs.Checklists.{AllNumbers, accepts, refuses, unrefused_new, refused_old}
-use Rattle.numbers.proofs.Outcomes.{failing_number, all_numbered, number_positive}
+use Rattle.numbers.proofs.Checklists.{AllNumbers, accepts, refuses, refused_old}
+use Rattle.numbers.proofs.Outcomes.{IsNamed, failing_number, all_numbered, number_positive}
 use Rattle.expansion.specs.Rows.{period}
 use Rattle.expansion.specs.Answer.{answer}
 use Rattle.expansion.specs.declared.Table.{Table}
@@ -15,7 +15,7 @@ use Rattle.geometry.specs.Segment.{Segment, segment}
 use Rattle.segment.specs.Accepted as segments
 use Rattle.segment.specs.Answer.{regular_answer, fine_answer}
 use Rattle.domain.specs.declared.Domain.{Domain}
-use Rattle.domain.specs.Answer.{domain_checks, domain_number, domain_answer, marks_after, list_after, values_after, scan_checks, scan_number, scan_answer, scan_list_after, scan_values_after}
+use Rattle.domain.specs.Answer.{domain_checks, domain_number, domain_answer, list_after, values_after, scan_checks, scan_number, scan_answer, scan_list_after, scan_values_after}
 use Rattle.c_api.specs.Memory.{handed, Delivered, number_memory, verdict_number, marks_memory}
 use Rattle.c_api.specs.Promise.{Promised}
 use Rattle.c_api.proofs.Memory.{unchanged}

@@ -11,10 +11,10 @@ use lib.Seq.{sets}
 use Rattle.numbers.specs.Checklist.{conditions, first_failing, unless_refused}
 use Rattle.numbers.specs.Lists.{overwrite_front}
 use Rattle.std.proofs.Common.{Result, Ok, Err, inr}
-use Rattle.numbers.specs.Refusals.{named, IsNamed, outcome, tested}
+use Rattle.numbers.specs.Refusals.{named, outcome, tested}
 use Rattle.numbers.specs.declared.refusals.Refusal.{Refusal}
 use Rattle.numbers.specs.declared.refusals.Refusal.TheVariants as refusals
-use Rattle.numbers.proofs.Outcomes.{not_refused, refused_alike, refused_first, outcome_refused}
+use Rattle.numbers.proofs.Outcomes.{IsNamed, not_refused, refused_alike, refused_first, outcome_refused}
 use Rattle.numbers.proofs.Checklists.{AllNumbers, accepts, accepted, gives, first_of_two, second_of_two, neither_refuses, refused_old}
 use Rattle.numbers.proofs.Remainders.{difference_within, difference_around}
 use Rattle.numbers.proofs.Buffers.{written_front}

@@ -1,7 +1,7 @@
 -- All that is promised of domains and scans. Assumes nothing.
 use mathlib.Core.Path.{◌≡◌, refl, sym, ◌∙◌, ap, ap₂, subst}
 use mathlib.Core.List.{List, [], ◌++◌, map}
-use mathlib.Core.Logic.{◌↔◌, ⊎_elim}
+use mathlib.Core.Logic.{◌↔◌, ◌⊎◌, inl, inr, ⊎_elim}
 use Prim.Native.Nat.{ℕ, zero, suc, ◌+◌, ◌^◌, ◌≤◌, ◌<◌}
 use native.Mathlib.Omega.{arith}
 use lib.Dec.{ltb}
@@ -40,6 +40,7 @@ use Rattle.domain.specs.declared.Domain.{Domain}
 use Rattle.domain.specs.Marks.{mark_numbers}
 use Rattle.domain.specs.declared.Searched.{Searched}
 use Rattle.domain.specs.declared.marks.Mark.{Mark}
+use Rattle.domain.specs.declared.marks.Mark.TheVariants as mark
 use Rattle.domain.proofs.Answers.{Room, searched_in_range, number_accepts, number_as_segment, domain_named, scan_named, scan_accepts}
 use Rattle.domain.proofs.Numbers.{value_in_numbers, hard_by_numbers, nearest, residue_in_segment, hard_in_segment}
 use Rattle.domain.proofs.Parts.{none_listed}
@@ -345,6 +346,12 @@ without_window d e =
 
 -- ---- all of it
 
+four_marks : (m : Mark) → (m ≡ mark.Unseen) ⊎ (m ≡ mark.Clear) ⊎ (m ≡ mark.Possible) ⊎ (m ≡ mark.Empty)
+four_marks mark.Unseen = inl refl
+four_marks mark.Clear = inr (inl refl)
+four_marks mark.Possible = inr (inr (inl refl))
+four_marks mark.Empty = inr (inr (inr refl))
+
 pub promised : Promised
 promised =
     record {
@@ -371,6 +378,7 @@ promised =
       scans = λ M a b N w old old_values. unfold scan_answer scan_list_after scan_values_after in scan_correct (segment.asked M a b N w) old old_values;
       without_window = without_window;
       domain_numbers = λ r s. (refl, refl, refl, refl, refl, refl);
+      four_marks = four_marks;
       mark_numbers_are = refl;
       scan_numbers = λ r n. (refl, refl, refl, refl);
     }

@@ -280,6 +280,8 @@ pub record Promised : Type 0 where
   pub domain_numbers : (r : Refusal) (s : Searched)
       → (number_in {A = Searched} (Err r) ≡ number_of r) × (number_in (Ok s) ≡ 0) × (domain_count (Err r) ≡ 0) × (domain_count (Ok s) ≡ s.listed)
       × (domain_first (Err r) ≡ Possible) × (domain_first (Ok s) ≡ s.first)
+  -- there are four marks and no other, and these are their numbers
+  pub four_marks : (m : Mark) → (m ≡ mark.Unseen) ⊎ (m ≡ mark.Clear) ⊎ (m ≡ mark.Possible) ⊎ (m ≡ mark.Empty)
   pub mark_numbers_are : mark_numbers (mark.Unseen ∷ mark.Clear ∷ mark.Possible ∷ mark.Empty ∷ []) ≡ 0 ∷ 1 ∷ 2 ∷ 3 ∷ []
   pub scan_numbers : (r : Refusal) (n : ℕ)
       → (number_in {A = ℕ} (Err r) ≡ number_of r) × (number_in (Ok n) ≡ 0) × (scan_count (Err r) ≡ 0) × (scan_count (Ok n) ≡ n)

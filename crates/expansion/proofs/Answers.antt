@@ -7,12 +7,13 @@ use native.Mathlib.Nat.{lt_of_not-le}
 use native.Mathlib.Decide.{dec_lt}
 use native.Mathlib.Omega.{arith}
 use lib.ListN.{get_or, length-map}
-use Rattle.std.proofs.Common.{IsOkAnd}
+use Rattle.std.proofs.Common.{Err, IsOkAnd}
 use Rattle.numbers.specs.Lists.{zero_padded}
-use Rattle.numbers.specs.Checklist.{conditions}
-use Rattle.numbers.specs.Refusals.{named, IsNamed, number_in}
+use Rattle.numbers.specs.Checklist.{conditions, RefusedBy}
+use Rattle.numbers.specs.Refusals.{number_of, named, number_in}
+use Rattle.numbers.specs.declared.refusals.Refusal.{Refusal}
 use Rattle.numbers.proofs.Checklists.{AllNumbers, refuses, accepts}
-use Rattle.numbers.proofs.Outcomes.{outcome_number, failing_named, error_numbered, shown_holds}
+use Rattle.numbers.proofs.Outcomes.{IsNamed, outcome_number, outcome_refuses, failing_named, shown_holds}
 use Rattle.numbers.proofs.Equivalences.{through}
 use Rattle.numbers.proofs.Lists.{padded_places, padded_front, padded_after}
 use Rattle.expansion.specs.Rows.{Row, expansion, last, remainder_at, denominator_at, quotient_at}
@@ -87,6 +88,10 @@ table_answered : (M a : ℕ) → refusal M a ≡ 0 → TableCorrect M a (table_o
 unfolding answer
 table_answered M a e t = shown_holds (refusal M a) (TableCorrect M a) e t
 
+by_name : (M a : ℕ) (r : Refusal) → (answer M a ≡ Err r) ↔ RefusedBy (conditions (checks M a)) (number_of r)
+unfolding answer refusal
+by_name M a r = outcome_refuses (checks M a) (table_of (expansion M a)) r (all_named M a)
+
 pub answer_correct : (M a : ℕ) → AnswerCorrect M a (answer M a)
 unfolding refusal
 answer_correct M a =
@@ -95,6 +100,6 @@ answer_correct M a =
       modulus_refused = through (sym (number M a)) (modulus_refused M a);
       step_refused = through (sym (number M a)) (step_refused M a);
       accepted = through (sym (number M a)) (accepted M a);
-      refused_empty = error_numbered (answer M a);
+      refused_empty = by_name M a;
       accepted_table = λ e. let h = (accepted M a).0 (number M a ∙ e) in table_answered M a (number M a ∙ e) (table_correct M a h.2 h.1);
     }

@@ -1,6 +1,6 @@
 -- What is promised of the expansion, with the letters of document 01: M the modulus, a the step, m the last row's index, P the period.
 -- `Promised`, at the end, says for which numbers each record holds; proofs/Promises.antt proves it. Assumes nothing: these are statements.
-use Rattle.std.specs.Prelude.{◌≡◌, ◌↔◌, ◌⊎◌, ℕ, suc, ◌+◌, ◌-◌, ◌*◌, ◌/◌, ◌%◌, ◌^◌, ◌≤◌, ◌<◌, length, get_or, Result, IsErrAnd, IsOkAnd}
+use Rattle.std.specs.Prelude.{◌≡◌, ◌↔◌, ◌⊎◌, ℕ, suc, ◌+◌, ◌-◌, ◌*◌, ◌/◌, ◌%◌, ◌^◌, ◌≤◌, ◌<◌, length, get_or, Result, Err, IsOkAnd}
 use mathlib.Core.List.{List, [], ◌∷◌, Memᴰ}
 use Rattle.std.specs.Int.{◌∣◌}
 use Rattle.numbers.specs.Checklist.{Condition, condition, RefusedBy}
@@ -149,7 +149,7 @@ pub record AnswerCorrect (M a : ℕ) (answered : Result Table Refusal) : Type 0 
   pub modulus_refused : (number_in answered ≡ 1) ↔ ((M < 2) ⊎ (2 ^ 62 < M))
   pub step_refused : (number_in answered ≡ 2) ↔ ((2 ≤ M) × (M ≤ 2 ^ 62) × (M ≤ a))
   pub accepted : (number_in answered ≡ 0) ↔ ((2 ≤ M) × (M ≤ 2 ^ 62) × (a < M))
-  pub refused_empty : 0 < number_in answered → IsErrAnd answered (λ r. number_of r ≡ number_in answered)
+  pub refused_empty : (r : Refusal) → (answered ≡ Err r) ↔ RefusedBy (Asked M a) (number_of r)
   pub accepted_table : number_in answered ≡ 0 → IsOkAnd answered (TableCorrect M a)
 
 -- all of it: of every step below a modulus, and the answer of every two numbers

@@ -1,11 +1,15 @@
 -- The answer of a call that may refuse, by the number of its checklist. Assumes nothing.
-use Rattle.std.proofs.Common.{◌≡◌, ℕ, zero, suc, ◌<◌, List, [], ◌∷◌, ◌++◌, Result, Ok, Err, IsOkAnd, IsErrAnd, ◌↔◌, refl, sym, ap, subst, ◌∙◌, arith}
+use Rattle.std.proofs.Common.{◌≡◌, ℕ, zero, suc, ◌<◌, List, [], ◌∷◌, ◌++◌, Result, Ok, Err, IsOkAnd, ◌↔◌, refl, sym, ap, subst, ◌∙◌, arith}
 use Rattle.numbers.specs.Checklist.{Condition, Check, conditions, first_failing, AllHold, RefusedBy, Numbered}
-use Rattle.numbers.specs.Refusals.{number_of, named, IsNamed, outcome, tested, number_in}
+use Rattle.numbers.specs.Refusals.{number_of, named, outcome, tested, number_in}
 use Rattle.numbers.specs.Promise.{RefusalsCorrect}
 use Rattle.numbers.specs.declared.refusals.Refusal.{Refusal}
 use Rattle.numbers.specs.declared.refusals.Refusal.TheVariants.{Modulus, Step, Start, Count, Window, Curve, Room, Malformed, Argument, Target, Origin}
 use Rattle.numbers.proofs.Checklists.{AllNumbers, refused_number, refuses, accepts, refused, accepted, first_of_two}
+
+-- a number of the eleven
+abbrev pub IsNamed : (number : ℕ) → Type 0
+IsNamed n = number_of (named n) ≡ n
 
 pub refusals_correct : RefusalsCorrect
 unfolding named outcome
@@ -17,6 +21,7 @@ refusals_correct =
       refused = refused;
       numbered = λ A r. refl;
       unnumbered = λ a. refl;
+      tests = λ n. refl;
     }
   where
     back : (r : Refusal) → named (number_of r) ≡ r
@@ -58,11 +63,6 @@ module _ {A : Type 0} where
   pub shown_holds : (n : ℕ) {a : A} (P : A → Type 0) → n ≡ 0 → P a → IsOkAnd (outcome n a) P
   unfolding outcome
   shown_holds n P e p = rw e p
-
-  -- an answer with a number is a refusal, which has that number
-  pub error_numbered : (r : Result A Refusal) → 0 < number_in r → IsErrAnd r (λ e. number_of e ≡ number_in r)
-  error_numbered (Ok x) h = absurd (omega (arith, h))
-  error_numbered (Err e) h = refl
 
   -- the answer by a checklist: a refusal whose condition is the first that does not hold
   pub outcome_refused : (cs : List Check) (r : Refusal) (a : A) → RefusedBy (conditions cs) (number_of r) → Err r ≡ outcome (first_failing cs) a

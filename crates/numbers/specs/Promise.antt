@@ -5,7 +5,7 @@ use Rattle.std.specs.Prelude.{◌≡◌, Bool, true, false, ◌↔◌, ℕ, suc,
 use mathlib.Core.List.{List, [], ◌∷◌, ◌++◌, Memᴰ}
 use Rattle.std.specs.Int.{◌∣◌}
 use Rattle.numbers.specs.Checklist.{Condition, Check, condition, check, conditions, first_failing, AllHold, RefusedBy, Numbered, unless_refused}
-use Rattle.numbers.specs.Refusals.{number_of, named, outcome, number_in}
+use Rattle.numbers.specs.Refusals.{number_of, named, outcome, tested, number_in}
 use Rattle.numbers.specs.declared.refusals.Refusal.{Refusal}
 use Rattle.numbers.specs.declared.refusals.Refusal.TheVariants.{Modulus, Step, Start, Count, Window, Curve, Room, Malformed, Argument, Target, Origin}
 use Rattle.numbers.specs.Integers.{◌modulo◌}
@@ -32,7 +32,8 @@ pub record ChecklistCorrect (cs : List Check) : Type 1 where
   pub refuses : (n : ℕ) → (first_failing cs ≡ suc n) ↔ RefusedBy (conditions cs) (suc n)
   pub accepts : Numbered (conditions cs) → (first_failing cs ≡ 0) ↔ AllHold (conditions cs)
 
--- each of the eleven refusals has its number, and no two have the same; an answer is a refusal exactly where a number refuses, and then that one
+-- each of the eleven refusals has its number, and no two have the same; an answer by 0 shows what is there, and by a number of the eleven it is
+-- that refusal; a call that tests alone answers likewise
 pub record RefusalsCorrect : Type 1 where
   pub numbers : map number_of (Modulus ∷ Step ∷ Start ∷ Count ∷ Window ∷ Curve ∷ Room ∷ Malformed ∷ Argument ∷ Target ∷ Origin ∷ [])
       ≡ 1 ∷ 2 ∷ 3 ∷ 4 ∷ 5 ∷ 6 ∷ 7 ∷ 8 ∷ 9 ∷ 10 ∷ 11 ∷ []
@@ -41,6 +42,7 @@ pub record RefusalsCorrect : Type 1 where
   pub refused : {A : Type 0} (r : Refusal) (a : A) → outcome (number_of r) a ≡ Err r
   pub numbered : (A : Type 0) (r : Refusal) → number_in {A = A} (Err r) ≡ number_of r
   pub unnumbered : {A : Type 0} (a : A) → number_in (Ok a) ≡ 0
+  pub tests : (n : ℕ) → tested n ≡ outcome n tt
 
 -- ---- integers
 

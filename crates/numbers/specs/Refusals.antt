@@ -1,5 +1,5 @@
 -- The refusals by name and by number, and the answer of a call that may refuse. Assumes nothing: these are definitions.
-use Rattle.std.specs.Prelude.{◌≡◌, [], ◌∷◌, ℕ, zero, suc, ◌-◌, get_or, Result, Ok, Err}
+use Rattle.std.specs.Prelude.{[], ◌∷◌, ℕ, zero, suc, ◌-◌, get_or, Result, Ok, Err}
 use Rattle.numbers.specs.declared.refusals.Refusal.{Refusal}
 use Rattle.numbers.specs.declared.refusals.Refusal.TheVariants.{Modulus, Step, Start, Count, Window, Curve, Room, Malformed, Argument, Target, Origin}
 
@@ -17,7 +17,7 @@ number_of Argument = 9
 number_of Target = 10
 number_of Origin = 11
 
--- the refusal that has a number; no number above 11, and not 0, is that of one
+-- the refusal that has a number, of 1 to 11; no other number is that of one
 unfoldable pub named : (number : ℕ) → Refusal
 named n =
     get_or
@@ -25,11 +25,7 @@ named n =
     (n - 1)
     Modulus
 
--- a number of the eleven
-abbrev pub IsNamed : (number : ℕ) → Type 0
-IsNamed n = number_of (named n) ≡ n
-
--- the answer of a call whose checklist gives this number: 0 is no refusal, and else the refusal has that number and stands alone
+-- the answer of a call whose checklist gives this number: 0 is no refusal, and a number of the eleven is that refusal alone
 unfoldable pub outcome : {A : Type 0} → (number : ℕ) → A → Result A Refusal
 outcome zero a = Ok a
 outcome (suc n) a = Err (named (suc n))

@@ -1,13 +1,14 @@
 -- The answers of the three calls: refused by the first condition that does not hold, and else what
 -- is asked for. Assumes nothing.
-use Rattle.std.proofs.Common.{◌≡◌, ℕ, suc, ◌*◌, ◌%◌, ◌^◌, ◌≤◌, ◌<◌, Ok, ◌↔◌, inl, inr, IsOkAnd, refl, sym, ap, ◌∙◌, arith}
+use Rattle.std.proofs.Common.{Err, ◌≡◌, ℕ, suc, ◌*◌, ◌%◌, ◌^◌, ◌≤◌, ◌<◌, Ok, ◌↔◌, inl, inr, IsOkAnd, refl, sym, ap, ◌∙◌, arith}
 use Rattle.numbers.specs.Checklist.{AllHold, RefusedBy}
-use Rattle.numbers.specs.Refusals.{number_in}
+use Rattle.numbers.specs.declared.refusals.Refusal.{Refusal}
+use Rattle.numbers.specs.Refusals.{number_of, number_in}
 use Rattle.numbers.specs.declared.refusals.Refusal.TheVariants.{Target}
 use Rattle.numbers.proofs.Checklists.{accepts, refuses}
 use Rattle.numbers.proofs.Equivalences.{through}
 use Rattle.numbers.proofs.Lists.{padded_places, padded_front, padded_after}
-use Rattle.numbers.proofs.Outcomes.{failing_number, error_numbered, shown_holds, outcome_refuses}
+use Rattle.numbers.proofs.Outcomes.{failing_number, shown_holds, outcome_refuses}
 use Rattle.expansion.specs.Rows.{last, period}
 use Rattle.expansion.proofs.Promises as expansion
 use Rattle.ostrowski.specs.Digits.{digits_of, residue_of, argument_of}
@@ -57,12 +58,17 @@ module _ (M a x : ℕ) where
       let h = accepted.0 e in
       shown_holds (argument_refusal M a x) (NumeralCorrect M a x) e (numeral_correct h.2 h.1)
 
+  by_name : (r : Refusal)
+      → (digits_answer M a x ≡ Err r) ↔ RefusedBy (ArgumentAsked M a x) (number_of r)
+  unfolding digits_answer argument_refusal
+  by_name r = outcome_refuses (argument_checks M a x) _ r (argument_named M a x)
+
   pub digits_answer_correct : DigitsAnswerCorrect M a x (digits_answer M a x)
   digits_answer_correct =
       record {
         refused = λ n. through (sym number) (refused n);
         accepted = through (sym number) accepted;
-        refused_empty = error_numbered (digits_answer M a x);
+        refused_empty = by_name;
         shown = λ e. shown (number ∙ e);
       }
 

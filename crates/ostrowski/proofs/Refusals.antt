@@ -1,10 +1,10 @@
 -- When each refusal is given: 1 and 2 as in the expansion, then 9 or 10. Assumes nothing.
 use Rattle.std.proofs.Common.{◌≡◌, ℕ, ◌^◌, ◌≤◌, ◌<◌, List, [], ◌∷◌, Ok, Err, ◌↔◌, inl, inr, refl, sym, ap, ◌∙◌}
 use Rattle.numbers.specs.Checklist.{Check, check, condition, conditions, first_failing, AllHold, RefusedBy}
-use Rattle.numbers.specs.Refusals.{named, IsNamed, outcome}
+use Rattle.numbers.specs.Refusals.{named, outcome}
 use Rattle.numbers.specs.declared.refusals.Refusal.{Refusal}
 use Rattle.numbers.proofs.Checklists.{AllNumbers, accepts}
-use Rattle.numbers.proofs.Outcomes.{outcome_shown, shown_accepted, refused_alike, refused_first, all_numbered}
+use Rattle.numbers.proofs.Outcomes.{IsNamed, outcome_shown, shown_accepted, refused_alike, refused_first, all_numbered}
 use Rattle.expansion.specs.Answer.{checks, refusal}
 use Rattle.expansion.proofs.Promises as expansion
 use Rattle.ostrowski.specs.Answer.{argument_checks, target_checks, argument_refusal, target_refusal}

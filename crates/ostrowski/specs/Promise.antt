@@ -3,7 +3,7 @@
 -- remainder, denominator and quotient of row i, m the last row; x an argument, d(i) its digits, t a
 -- target. `Promised`, at the end, says for which numbers each record holds; proofs/Promises.antt
 -- proves it. Assumes nothing: these are statements.
-use Rattle.std.specs.Prelude.{◌≡◌, List, [], ◌∷◌, ◌↔◌, ℕ, suc, ◌*◌, ◌%◌, ◌^◌, ◌≤◌, ◌<◌, length, get_or, Result, Ok, Err, IsOkAnd, IsErrAnd}
+use Rattle.std.specs.Prelude.{◌≡◌, List, [], ◌∷◌, ◌↔◌, ℕ, suc, ◌*◌, ◌%◌, ◌^◌, ◌≤◌, ◌<◌, length, get_or, Result, Ok, Err, IsOkAnd}
 use Rattle.std.specs.Int.{◌∣◌}
 use Rattle.numbers.specs.Checklist.{Condition, condition, AllHold, RefusedBy}
 use Rattle.numbers.specs.Refusals.{number_of, number_in}
@@ -86,8 +86,8 @@ pub record NumeralCorrect (M a x : ℕ) (numeral : Numeral) : Type 0 where
 pub record DigitsAnswerCorrect (M a x : ℕ) (answered : Result Numeral Refusal) : Type 0 where
   pub refused : (n : ℕ) → (number_in answered ≡ suc n) ↔ RefusedBy (ArgumentAsked M a x) (suc n)
   pub accepted : (number_in answered ≡ 0) ↔ ((2 ≤ M) × (M ≤ 2 ^ 62) × (a < M) × (x < period M a))
-  pub refused_empty : 0 < number_in answered
-      → IsErrAnd answered (λ r. number_of r ≡ number_in answered)
+  pub refused_empty : (r : Refusal)
+      → (answered ≡ Err r) ↔ RefusedBy (ArgumentAsked M a x) (number_of r)
   pub shown : number_in answered ≡ 0 → IsOkAnd answered (NumeralCorrect M a x)
 
 -- residue: refused exactly where a condition does not hold, by the first one, and else a·x mod M

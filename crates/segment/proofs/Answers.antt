@@ -5,10 +5,10 @@ use Prim.Native.Nat.{ℕ, zero, suc, ◌^◌, ◌≤◌}
 use native.Mathlib.Omega.{arith}
 use Rattle.std.proofs.Common.{Ok, Err}
 use Rattle.numbers.specs.Checklist.{conditions}
-use Rattle.numbers.specs.Refusals.{number_of, named, IsNamed, tested}
+use Rattle.numbers.specs.Refusals.{number_of, named, tested}
 use Rattle.numbers.specs.declared.refusals.Refusal.{Refusal}
 use Rattle.numbers.proofs.Checklists.{AllNumbers, accepts, refuses}
-use Rattle.numbers.proofs.Outcomes.{outcome_shown, outcome_refuses, tested_accepted, not_refused}
+use Rattle.numbers.proofs.Outcomes.{IsNamed, outcome_shown, outcome_refuses, tested_accepted, not_refused}
 use Rattle.expansion.specs.Reached.{Search}
 use Rattle.expansion.specs.Reached.Search.{regular, fine}
 use Rattle.geometry.specs.Segment.{Segment, residue}

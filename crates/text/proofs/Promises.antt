@@ -10,4 +10,12 @@ unfolding signed_decimal
 text_correct = record { feed = refl; nothing = refl; byte = λ c s. refl; rising = λ n. refl; falling = λ n. refl; line_is = λ name written rest. refl }
 
 pub promised : Promised
-promised = record { decimals = decimal_correct; texts = text_correct; fields = field_correct }
+promised =
+    record {
+      decimals = decimal_correct;
+      texts = text_correct;
+      writing = λ old xs new. record {
+        written = (λ w. (w.place, w.bytes, w.same_buffer), λ h. record { place = h.0; bytes = h.1; same_buffer = h.2 });
+      };
+      fields = field_correct;
+    }

@@ -5,6 +5,10 @@ use Prim.Native.Char.{Char, code}
 use Prim.Native.String.{String, ◌∷◌ as ◌then◌}
 use Rattle.text.specs.Text.{bytes, line_feed, decimal, signed_decimal, line}
 use Rattle.text.specs.Reading.{number_from, field_at, signed_field_at}
+use Rattle.text.specs.Writing.{Wrote}
+use Rattle.text.specs.declared.writer.Writer.{Writer}
+use Rattle.std.proofs.lemmas.List.Edits.{sets}
+use Rattle.numbers.specs.Lists.{place_after}
 
 -- ---- decimal numbers
 
@@ -62,8 +66,16 @@ pub record TextCorrect : Type 0 where
   pub falling : (n : ℕ) → signed_decimal (negsuc n) ≡ bytes "-" ++ decimal (suc n)
   pub line_is : (name written rest : List ℕ) → line name written rest ≡ name ++ (written ++ 10 ∷ rest)
 
+-- ---- writing
+
+-- what a writer is asked to write stands from its place on, as far as there are places, and the rest of the buffer is as it was; its place is then the one after
+pub record WritingCorrect (old : Writer) (xs : List ℕ) (new : Writer) : Type 0 where
+  pub written : Wrote old xs new
+      ↔ ((new.at ≡ place_after old.at xs old.out.now) × (new.out.now ≡ sets old.out.now old.at xs) × (new.out.ghost_name ≡ old.out.ghost_name))
+
 -- all of it
 pub record Promised : Type 0 where
   pub decimals : (n : ℕ) → DecimalCorrect n
   pub texts : TextCorrect
+  pub writing : (old : Writer) (xs : List ℕ) (new : Writer) → WritingCorrect old xs new
   pub fields : (name t : List ℕ) (at : ℕ) → FieldCorrect name t at

@@ -13,4 +13,4 @@ returns c =
     let b = rw (begun.place, begun.bytes) at c.print_answer.ensures.bytes in
     let full : length a.out.now ≡ longest = search rules in
     let w = in_buffer a.text.now _ a.out.now (ap output_with (sym c.read_job.ensures)) full (p, b) in
-    record { count = c.written.ensures ∙ w.0; written = w.1; room = full }
+    record { count = c.place.ensures ∙ w.0; written = w.1; room = full }
