@@ -1,5 +1,6 @@
 mod Reports
 mod Outputs
 mod Longest
+mod Readings
 mod Renderings
 pub mod Promises

@@ -5,8 +5,9 @@
 // and the origin is 0 then. All else is refused by 8, before all other refusals.
 #![tactic(auto)]
 
-ghost use Rattle.std.specs.Prelude.{◌≡◌, length};
+ghost use Rattle.std.specs.Prelude.{◌≡◌, ℕ, List, length};
 ghost use Rattle.numbers.specs.Lists.{overwrite_front};
+ghost use Rattle.text.specs.Reader.{StandsAt};
 ghost use Rattle.text.specs.Writing.{Wrote};
 ghost use Rattle.job.specs.Reading.{lines_from, reading};
 ghost use Rattle.job.specs.Output.{job_answer, job_marks, job_list, job_values};
@@ -17,7 +18,7 @@ mod report;
 use domain::{Domain, Mark, Searched};
 use numbers::Refusal;
 use report::{put_refusal, put_report};
-use text::Writer;
+use text::{Reader, Writer};
 
 // The longest answer: 4,096 arguments of sixteen digits with values of nineteen.
 pub const LONGEST: usize = 213034;
@@ -25,26 +26,25 @@ pub const LONGEST: usize = 213034;
 // Reads a job, where the text is one: no space, no sign but a minus before a curve that is not 0,
 // no leading zero but in 0 itself, numbers below 2^64, a curve's size below 2^63, nothing after the
 // line feed of the window. Without the line of the origin the text begins with that of the modulus.
-#[tactic(auto, unfolding(crate::specs::Reading::reading))]
 pub fn read_job(text: &[u8]) -> Option<Domain>
     ensures { result ≡ reading text.now }
 {
-    let (origin, at) = text::field(text, 0, b"origin=").unwrap_or((0, 0));
-    read_lines(text, at, origin)
+    let mut reader = Reader::new(text);
+    let origin = reader.field(b"origin=").unwrap_or(0);
+    read_lines(reader, origin)
 }
 
-// The six lines that every job has, from a place on.
-#[tactic(auto, unfolding(crate::specs::Reading::lines_from, crate::specs::Reading::rest_from))]
-fn read_lines(text: &[u8], at: usize, origin: u64) -> Option<Domain>
-    ensures { result ≡ lines_from at origin text.now }
+// The six lines that every job has, and nothing after them.
+fn read_lines(mut reader: Reader, origin: u64) -> Option<Domain>
+    ensures { (at : ℕ) (text : List ℕ) → StandsAt reader.entry at text → result ≡ lines_from at origin text }
 {
-    let (modulus, at) = text::field(text, at, b"modulus=")?;
-    let (value, at) = text::field(text, at, b"value=")?;
-    let (slope, at) = text::field(text, at, b"slope=")?;
-    let (curve, at) = text::signed_field(text, at, b"curve=")?;
-    let (count, at) = text::field(text, at, b"count=")?;
-    let (window, end) = text::field(text, at, b"window=")?;
-    if end < text.len() {
+    let modulus = reader.field(b"modulus=")?;
+    let value = reader.field(b"value=")?;
+    let slope = reader.field(b"slope=")?;
+    let curve = reader.signed_field(b"curve=")?;
+    let count = reader.field(b"count=")?;
+    let window = reader.field(b"window=")?;
+    if !reader.is_at_end() {
         return None;
     }
     Some(Domain {

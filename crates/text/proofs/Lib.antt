@@ -2,6 +2,7 @@ mod Decimals
 mod Writing
 mod Names
 mod Steps
+mod Fields
 mod Numbers
 mod Lines
 mod Digits

@@ -1,4 +1,5 @@
 pub mod Text
 pub mod Reading
+pub mod Reader
 pub mod Writing
 pub mod Promise

@@ -1,0 +1,53 @@
+// Fields with decimal numbers, read strictly from a text one after another. A field is a name, a
+// number and a line feed.
+use crate::reading::{number, signed_number};
+
+// What is left of a text that is read.
+#[derive(Drop)]
+pub struct Reader<'a> {
+    rest: &'a [u8],
+}
+
+impl<'a> Reader<'a> {
+    ghost use Rattle.std.specs.Prelude.{◌≡◌, ◌↔◌, length, IsTrue, MatchOption};
+    ghost use Rattle.text.specs.Reading.{field_at, signed_field_at};
+    ghost use Rattle.text.specs.Reader.{Read, NotRead};
+
+    // Reads from the first place on.
+    pub fn new(text: &'a [u8]) -> Reader<'a>
+        ensures { result.rest.now ≡ text.now }
+    {
+        Reader { rest: text }
+    }
+
+    // Nothing is left.
+    pub fn is_at_end(&self) -> bool
+        ensures { IsTrue result ↔ length self.now.rest.now ≡ 0 }
+    {
+        self.rest.is_empty()
+    }
+
+    // A name, a number below 2^64 and a line feed: no sign, no space, no leading zero but in 0
+    // itself. Where they are not next, nothing is read.
+    pub fn field(&mut self, name: &[u8]) -> Option<u64>
+        ensures { MatchOption result
+            (NotRead (field_at name.now) self.old self.new)
+            (λ n. Read (field_at name.now) self.old n self.new) }
+    {
+        let (n, rest) = number(self.rest.strip_prefix(name)?)?;
+        self.rest = rest;
+        Some(n)
+    }
+
+    // The same with a signed number whose size is below 2^63: a minus sign before one that is not
+    // 0, and no other sign.
+    pub fn signed_field(&mut self, name: &[u8]) -> Option<i64>
+        ensures { MatchOption result
+            (NotRead (signed_field_at name.now) self.old self.new)
+            (λ n. Read (signed_field_at name.now) self.old n self.new) }
+    {
+        let (n, rest) = signed_number(self.rest.strip_prefix(name)?)?;
+        self.rest = rest;
+        Some(n)
+    }
+}
