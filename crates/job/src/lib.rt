@@ -36,7 +36,8 @@ pub fn read_job(text: &[u8]) -> Option<Domain>
 
 // The six lines that every job has, and nothing after them.
 fn read_lines(mut reader: Reader, origin: u64) -> Option<Domain>
-    ensures { (at : ℕ) (text : List ℕ) → StandsAt reader.entry at text → result ≡ lines_from at origin text }
+    ensures { (at : ℕ) (text : List ℕ) → StandsAt reader.entry at text
+        → result ≡ lines_from at origin text }
 {
     let modulus = reader.field(b"modulus=")?;
     let value = reader.field(b"value=")?;
