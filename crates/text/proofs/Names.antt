@@ -8,6 +8,7 @@ use mathlib.Mathlib.Data.Bool.Basic.{dichotomy}
 use Prim.Native.Nat.{ℕ}
 use lib.Dec.{eqb}
 use lib.ListN.{length, take, drop}
+use lib.Seq.{drop-drop}
 use lib.Pointwise.{pointwise}
 use borrow.Author.Tests.{eq-eqb, eqb-true}
 use Rattle.text.specs.Reading.{starts}
@@ -34,3 +35,6 @@ starts_is (x ∷ xs) (y ∷ ys) = rw (starts_is xs ys) (⊎_elim (λ e. rw e) (�
 -- the same of a minus sign
 pub minus_is : (t : List ℕ) → pointwise eqb (take 1 t) (45 ∷ []) ≡ starts (45 ∷ []) t
 minus_is t = starts_is (45 ∷ []) t
+
+-- and what is behind a name
+pub ruleset name_first = (starts_is, drop-drop)
