@@ -1,14 +1,7 @@
--- What a reader of a job's text finds: the line of the origin, or none, and the end of the text.
--- Assumes nothing.
-use mathlib.Core.Path.{◌≡◌, ap, ◌∙◌}
-use mathlib.Core.Bool.{true, false, false≢true}
+-- What a reader of a job's text finds first: the line of the origin, or none. Assumes nothing.
+use mathlib.Core.Path.{◌≡◌, ◌∙◌}
 use mathlib.Core.List.{List}
 use Prim.Native.Nat.{ℕ}
-use native.Mathlib.Nat.{pos_of_ne-zero}
-use native.Mathlib.Omega.{arith}
-use lib.Dec.{ltb}
-use lib.ListN.{length, drop, length-drop}
-use borrow.Author.Tests.{le-ltb, lt-ltb}
 use Rattle.std.specs.Option.{unwrap_or}
 use Rattle.std.specs.Prelude.{MatchOption}
 use Rattle.std.proofs.Common.{Option, Some, None}
@@ -18,15 +11,6 @@ use Rattle.text.specs.Text.{bytes}
 use Rattle.text.specs.Reading.{field_at}
 use Rattle.text.specs.Reader.{StandsAt, Read, NotRead}
 use Rattle.job.specs.Reading.{lines_from, reading}
-
--- what stands from a place on is all or not all that the text has
-module _ (t rest : List ℕ) (end : ℕ) (here : rest ≡ drop end t) where
-  pub at_end : length rest ≡ 0 → ltb end (length t) ≡ false
-  at_end none = le-ltb end (length t) (omega (arith, none, ap length here, length-drop end t))
-
-  pub before_end : (length rest ≡ 0 → false ≡ true) → ltb end (length t) ≡ true
-  before_end some =
-      lt-ltb end (length t) (omega (arith, pos_of_ne-zero (λ z. false≢true (some z)), ap length here, length-drop end t))
 
 -- where the six lines are read after the line of the origin, or else from the first place on with
 -- origin 0, the job is read

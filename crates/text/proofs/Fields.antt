@@ -1,7 +1,7 @@
--- Numbers and fields at the front of what is left of a text, at whatever place that is.
+-- Numbers, and a signed one behind a name, at the front of what is left of a text, at whatever place that is.
 -- Assumes nothing.
 use mathlib.Core.Path.{◌≡◌, refl, sym, ap, ◌∙◌}
-use mathlib.Core.Bool.{true, false, cond}
+use mathlib.Core.Bool.{true, cond}
 use mathlib.Core.List.{List, [], ◌∷◌}
 use Prim.Native.Nat.{ℕ, suc, ◌+◌, ◌-◌}
 use native.Mathlib.Omega.{arith}
@@ -13,11 +13,9 @@ use lib.Pointwise.{pointwise}
 use denote.Bor.{Bor}
 use Rattle.std.specs.Prelude.{MatchOption}
 use Rattle.std.proofs.Common.{Option, Some, None}
-use Rattle.text.specs.Reading.{is_digit, starts, digits_from, number_from, field_at, opposite, signed_field_at}
+use Rattle.text.specs.Reading.{is_digit, starts, digits_from, number_from, opposite, signed_field_at}
 use Rattle.text.specs.Reader.{Front, NoFront, signed_number_from}
 use Rattle.text.proofs.Names.{starts_is}
-
--- ---- numbers
 
 -- a number's first digit, and what its other digits tell
 pub first_and_more : (x : ℕ) (xs : List ℕ) → is_digit x ≡ true → (told : Option (ℕ × Bor (List ℕ)))
@@ -40,38 +38,18 @@ minus_and_number {text} {after} {rest} {size} {s} minus behind front told =
       front.2 ∙ rw (behind, drop-drop),
     )
 
--- ---- fields
-
--- a field is a name and a value, and a text has this at its front
-module _ {A : Type 0} (name : List ℕ) (value field : ℕ → List ℕ → Option (A × ℕ))
-    (is : (at : ℕ) (t : List ℕ) → field at t ≡ cond (starts name (drop at t)) (value (at + length name) (drop (at + length name) t)) None)
-    {front : List ℕ} where
-  -- not the name
-  pub no_name : pointwise eqb (take (length name) front) name ≡ false → (at : ℕ) (t : List ℕ) → front ≡ drop at t → field at t ≡ None
-  no_name other at t here = is at t ∙ rw (← here, ← starts_is name front, other) refl
-
-  module _ {after : List ℕ} (named : pointwise eqb (take (length name) front) name ≡ true) (behind : after ≡ drop (length name) front) where
-    -- the name, and behind it what tells the value
-    name_then : (at : ℕ) (t : List ℕ) → front ≡ drop at t → (after ≡ drop (at + length name) t) × (field at t ≡ value (at + length name) after)
-    name_then at t here =
-        let there : after ≡ drop (at + length name) t = behind ∙ rw (here, drop-drop) in
-        (there, is at t ∙ rw (← here, ← starts_is name front, named, ← there) refl)
-
-    pub no_value : NoFront value after → (at : ℕ) (t : List ℕ) → front ≡ drop at t → field at t ≡ None
-    no_value none at t here = (name_then at t here).1 ∙ none (at + length name)
-
-    pub name_and_value : {a : A} {rest : List ℕ} → Front value after a rest → (at : ℕ) (t : List ℕ) → front ≡ drop at t
-        → (end : ℕ) × (field at t ≡ Some (a, end)) × (rest ≡ drop end t)
-    name_and_value read at t here =
-        let n = name_then at t here in
-        (at + length name + read.0, n.1 ∙ read.1 (at + length name), read.2 ∙ rw (n.0, drop-drop))
-
-pub field_is : (name : List ℕ) (at : ℕ) (t : List ℕ)
-    → field_at name at t ≡ cond (starts name (drop at t)) (number_from (at + length name) (drop (at + length name) t)) None
-unfolding field_at
-field_is name at t = refl
-
-pub signed_field_is : (name : List ℕ) (at : ℕ) (t : List ℕ)
+signed_field_is : (name : List ℕ) (at : ℕ) (t : List ℕ)
     → signed_field_at name at t ≡ cond (starts name (drop at t)) (signed_number_from (at + length name) (drop (at + length name) t)) None
 unfolding signed_field_at
 signed_field_is name at t = rw (drop-drop) refl
+
+-- a name and a signed number behind it
+pub name_and_signed_number : (name : List ℕ) {front after rest : List ℕ} {s : ℤ} → pointwise eqb (take (length name) front) name ≡ true
+    → after ≡ drop (length name) front → Front signed_number_from after s rest → (at : ℕ) (t : List ℕ) → front ≡ drop at t
+    → (end : ℕ) × (signed_field_at name at t ≡ Some (s, end)) × (rest ≡ drop end t)
+name_and_signed_number name {front} {after} named behind read at t here =
+    let there : after ≡ drop (at + length name) t = behind ∙ rw (here, drop-drop) in (
+      at + length name + read.0,
+      signed_field_is name at t ∙ rw (← here, ← starts_is name front, named, ← there) (read.1 (at + length name)),
+      read.2 ∙ rw (there, drop-drop),
+    )

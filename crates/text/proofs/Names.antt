@@ -3,16 +3,13 @@
 use mathlib.Core.Path.{◌≡◌, refl}
 use mathlib.Core.Bool.{true, false≢true}
 use mathlib.Core.List.{List, [], ◌∷◌, ◌++◌}
-use mathlib.Core.Logic.{⊎_elim, by_cases}
+use mathlib.Core.Logic.{⊎_elim}
 use mathlib.Mathlib.Data.Bool.Basic.{dichotomy}
-use Prim.Native.Nat.{ℕ, ◌+◌, ◌-◌, min}
-use native.Mathlib.Decide.{dec_le}
-use native.Mathlib.Omega.{arith}
+use Prim.Native.Nat.{ℕ}
 use lib.Dec.{eqb}
 use lib.ListN.{length, take, drop}
 use lib.Seq.{drop-drop}
 use lib.Pointwise.{pointwise}
-use Rattle.std.proofs.lemmas.Grind.{common_steps}
 use borrow.Author.Tests.{eq-eqb, eqb-true}
 use Rattle.text.specs.Reading.{starts}
 
@@ -35,16 +32,9 @@ starts_is [] t = refl
 starts_is (x ∷ xs) [] = refl
 starts_is (x ∷ xs) (y ∷ ys) = rw (starts_is xs ys) (⊎_elim (λ e. rw e) (λ e. rw e) (dichotomy (eqb y x)))
 
--- what is left of a text from a place on, which may be beyond its end
-pub from_place : (t : List ℕ) (at m : ℕ) → m ≡ min at (length t) → take (length t - m) (drop m t) ≡ drop at t
-from_place t at m h = by_cases (dec_le at (length t)) (λ l. grind (arith, common_steps)) (λ l. grind (arith, common_steps))
+-- the same of a minus sign
+pub minus_is : (t : List ℕ) → pointwise eqb (take 1 t) (45 ∷ []) ≡ starts (45 ∷ []) t
+minus_is t = starts_is (45 ∷ []) t
 
--- the same of a minus sign, and what is left after one
-module _ (t : List ℕ) where
-  pub minus_is : pointwise eqb (take 1 t) (45 ∷ []) ≡ starts (45 ∷ []) t
-  minus_is = starts_is (45 ∷ []) t
-
-  pub after_minus : (k : ℕ) → drop (k + 1) t ≡ drop 1 (drop k t)
-  after_minus k = rw drop-drop
-
-pub ruleset minus_sign = (minus_is, after_minus)
+-- and what is behind a name
+pub ruleset name_first = (starts_is, drop-drop)

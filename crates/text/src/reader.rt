@@ -29,6 +29,7 @@ impl<'a> Reader<'a> {
 
     // A name, a number below 2^64 and a line feed: no sign, no space, no leading zero but in 0
     // itself. Where they are not next, nothing is read.
+    #[tactic(auto, using(crate::proofs::Names::name_first), unfolding(crate::specs::Reading::field_at))]
     pub fn field(&mut self, name: &[u8]) -> Option<u64>
         ensures { MatchOption result
             (NotRead (field_at name.now) self.old self.new)
@@ -41,6 +42,7 @@ impl<'a> Reader<'a> {
 
     // The same with a signed number whose size is below 2^63: a minus sign before one that is not
     // 0, and no other sign.
+    #[tactic(auto, using(crate::proofs::Names::name_first), unfolding(crate::specs::Reading::signed_field_at))]
     pub fn signed_field(&mut self, name: &[u8]) -> Option<i64>
         ensures { MatchOption result
             (NotRead (signed_field_at name.now) self.old self.new)

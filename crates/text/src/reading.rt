@@ -1,8 +1,6 @@
 // Numbers, at the front of what is left of a text.
-ghost use Rattle.std.specs.Prelude.{◌≡◌, ◌+◌, ◌-◌, ◌*◌, ◌^◌, ◌≤◌, ◌<◌, true, false};
-ghost use Rattle.std.specs.Prelude.{ℕ, drop, MatchOption, if◌then◌else◌};
-ghost use Rattle.text.specs.Reading.{takes_digit, digits_from, number_from};
-ghost use Rattle.text.specs.Reading.{unsigned, opposite};
+ghost use Rattle.std.specs.Prelude.{◌≡◌, ◌+◌, ◌-◌, ◌*◌, ℕ, MatchOption, if◌then◌else◌};
+ghost use Rattle.text.specs.Reading.{takes_digit, digits_from, number_from, unsigned, opposite};
 ghost use Rattle.text.specs.Reader.{Front, NoFront, signed_number_from, with_end};
 
 // A number and its line feed. Tells the number and what is left after the line feed.
@@ -48,7 +46,7 @@ fn with_digit(n: u64, x: u8) -> Option<u64>
 }
 
 // A number with or without a minus sign, and its line feed.
-#[tactic(auto, using(crate::proofs::Names::minus_sign))]
+#[tactic(auto, using(crate::proofs::Names::minus_is))]
 pub(crate) fn signed_number(text: &[u8]) -> Option<(i64, &[u8])>
     ensures { MatchOption result
         (NoFront signed_number_from text.now)
