@@ -87,7 +87,8 @@ pub fn regular_verdict(arc: Arc) -> Verdict
     }
 }
 
-// The same by the fine search. Two calls and no generic one: they differ by one call over `within`.
+// The same by the fine search. Two calls and no generic one, as docs/STATEMENTS.md names them: they
+// differ by one call over `within`.
 pub fn fine_verdict(arc: Arc) -> Verdict
     ensures { result ≡ arc_verdict fine arc }
 {

@@ -57,7 +57,8 @@ impl Within {
         segment::regular_verdict(self.cover())
     }
 
-    // The same by the fine search, which refuses no covering segment.
+    // The same by the fine search, which refuses no covering segment. Two methods: each asks one call
+    // of `segment`, and those two differ.
     pub fn fine_verdict(self) -> Verdict
         ensures { result ≡ verdict fine (covering (parabola self.arc)) }
     {

@@ -32,6 +32,7 @@ pub extern "C" fn geyserdish_expand(
     match expansion::expand(modulus, step) {
         Err(refusal) => u32::from(refusal),
         Ok(table) => {
+            // Through variables: no field that is an array is stored straight.
             let r = table.remainders;
             *remainders = r;
             let d = table.denominators;

@@ -205,6 +205,7 @@ fn search_parts(
     if places < report.total as u64 {
         return Err(Refusal::Room);
     }
+    // Through a variable: no field that is an array is stored straight.
     let found = report.marks;
     *marks = found;
     let hard = report.hard;

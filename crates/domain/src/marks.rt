@@ -6,10 +6,10 @@ ghost use Rattle.domain.specs.Marks.{mark_number};
 // scanned; or without arguments.
 #[derive(Clone, Copy, Debug, PartialEq, Eq)]
 pub enum Mark {
-    Unseen,
-    Clear,
-    Possible,
-    Empty,
+    Unseen = 0,
+    Clear = 1,
+    Possible = 2,
+    Empty = 3,
 }
 
 // The number by which the customer knows a mark.
@@ -17,11 +17,6 @@ impl From<Mark> for u8 {
     ghost from_gives = { λ mark number. number ≡ mark_number mark };
 
     fn from(mark: Mark) -> u8 {
-        match mark {
-            Mark::Unseen => 0,
-            Mark::Clear => 1,
-            Mark::Possible => 2,
-            Mark::Empty => 3,
-        }
+        mark as u8
     }
 }

@@ -21,7 +21,8 @@ struct PartReport {
     hard: u32,
 }
 
-// Of all parts: the marks, how many hard arguments each has, and how many they have together.
+// Of all parts: the marks, how many hard arguments each has, and how many they have together. Two
+// arrays, and none of PartReport: the marks are handed over as they are.
 #[derive(Clone, Copy)]
 pub(crate) struct Report {
     pub(crate) marks: [Mark; 8],
@@ -113,7 +114,8 @@ impl Scan {
         Report { marks, hard, total }
     }
 
-    // The second half of phase 3, once it is known that the list and the values have room for all.
+    // The second half of phase 3, once it is known that the list and the values, two buffers as C lends
+    // them, have room for all. The place is where the rest of both begins for the next part.
     pub(crate) fn list_parts(self, hard: [u32; 8], list: &mut [u64], values: &mut [u64])
         requires hard_counted { hard ≡ hard_counts (scanned self) }
         requires list_room { length (hard_list (scanned self)) ≤ length list.old }

@@ -79,7 +79,8 @@ impl Scan {
     // Writes the hard arguments, of which there are `number`, into the list from its first place
     // on, and beside each its value. The next value is formed before this one is written, so that
     // the sum and the writes overlap.
-    // No `for` over the arguments: it ends with the last hard one, which that would test beside x.
+    // No `for` over the arguments: it ends with the last hard one, which that would have to test beside
+    // x, and so is no plainer. List and values are two buffers, as C lends them.
     pub(crate) fn list_hard(self, number: u32, list: &mut [u64], values: &mut [u64])
         requires number_counted { number ≡ length (hard_list (scanned self)) }
         requires list_room { number ≤ length list.old }
@@ -112,7 +113,8 @@ impl Scan {
 // The same where all arguments are hard, from the first place on, of an arc that is not raised and
 // begins at 0. There is nothing to test. Each column has its own loop: the arguments need no
 // values, so the compiler writes several at once.
-// By index: of places that an adapter of `iter_mut` gives, as `enumerate`, nothing can be proved.
+// By index: the place of an argument is the argument, and its value has the same place. List and values
+// are two buffers, as C lends them.
 pub(crate) fn list_all(within: Within, list: &mut [u64], values: &mut [u64])
     requires all_hard { length (hard_list (parabola within.arc)) ≡ within.arc.count }
     requires list_room { within.arc.count ≤ length list.old }

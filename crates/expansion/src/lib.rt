@@ -21,7 +21,8 @@ pub struct Table {
 // 2^62
 const LARGEST_MODULUS: u64 = 4611686018427387904;
 
-// The expansion of a step below a modulus up to 2^62. Refused as `refuse` says.
+// The expansion of a step below a modulus up to 2^62. Refused as `refuse` says. Modulus and step are two
+// numbers here and in `ostrowski`: a struct of the two would say no more.
 pub fn expand(modulus: u64, step: u64) -> Result<Table, Refusal>
     ensures { result ≡ answer modulus step }
 {

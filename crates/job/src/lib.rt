@@ -81,7 +81,7 @@ fn print_answer(job: Option<Domain>, out: &mut Writer)
     let mut list = [0u64; 4096];
     let mut values = [0u64; 4096];
     match search(job, &mut marks, &mut list, &mut values) {
-        Err(refusal) => put_refusal(u32::from(refusal) as u64, out),
+        Err(refusal) => put_refusal(refusal, out),
         Ok(found) => put_report(
             found.first,
             &marks,
@@ -92,7 +92,7 @@ fn print_answer(job: Option<Domain>, out: &mut Writer)
     }
 }
 
-// Searches the domain of a job. A text that is none is refused by 8, and leaves marks, list and
+// Searches the domain of a job. List and values are two buffers, as the domain's search wants them. A text that is none is refused by 8, and leaves marks, list and
 // values as they were.
 fn search(
     job: Option<Domain>,

@@ -1,6 +1,7 @@
 // What is printed of a job: the line of a refusal; or phase 1's verdict, the marks, and the hard
 // arguments with their values. Each name that is printed stands here, and once.
 ghost use Rattle.std.specs.Prelude.{[]};
+ghost use Rattle.numbers.specs.Refusals.{number_of};
 ghost use Rattle.domain.specs.Marks.{mark_numbers};
 ghost use Rattle.text.specs.Text.{bytes, line};
 ghost use Rattle.text.specs.Writing.{Wrote};
@@ -8,14 +9,15 @@ ghost use Rattle.job.specs.Output.{verdict_name, mark_digits, argument_lines};
 ghost use Rattle.job.specs.Output.{refused, report};
 
 use domain::Mark;
+use numbers::Refusal;
 use text::Writer;
 
 // A refusal is its number alone.
 #[tactic(auto, unfolding(crate::specs::Output::refused))]
-pub(crate) fn put_refusal(number: u64, out: &mut Writer)
-    ensures { Wrote out.old (refused number) out.new }
+pub(crate) fn put_refusal(refusal: Refusal, out: &mut Writer)
+    ensures { Wrote out.old (refused (number_of refusal)) out.new }
 {
-    out.put_line(b"refused=", number);
+    out.put_line(b"refused=", u32::from(refusal) as u64);
 }
 
 // What is printed of a job that is not refused.

@@ -5,17 +5,17 @@ ghost use Rattle.numbers.specs.Refusals.{number_of};
 // What is wrong with the numbers, or with the text, of a call.
 #[derive(Clone, Copy, Debug, PartialEq, Eq)]
 pub enum Refusal {
-    Modulus,
-    Step,
-    Start,
-    Count,
-    Window,
-    Curve,
-    Room,
-    Malformed,
-    Argument,
-    Target,
-    Origin,
+    Modulus = 1,
+    Step = 2,
+    Start = 3,
+    Count = 4,
+    Window = 5,
+    Curve = 6,
+    Room = 7,
+    Malformed = 8,
+    Argument = 9,
+    Target = 10,
+    Origin = 11,
 }
 
 // The number of a refusal, which is never 0.
@@ -23,18 +23,6 @@ impl From<Refusal> for u32 {
     ghost from_gives = { λ refusal number. number ≡ number_of refusal };
 
     fn from(refusal: Refusal) -> u32 {
-        match refusal {
-            Refusal::Modulus => 1,
-            Refusal::Step => 2,
-            Refusal::Start => 3,
-            Refusal::Count => 4,
-            Refusal::Window => 5,
-            Refusal::Curve => 6,
-            Refusal::Room => 7,
-            Refusal::Malformed => 8,
-            Refusal::Argument => 9,
-            Refusal::Target => 10,
-            Refusal::Origin => 11,
-        }
+        refusal as u32
     }
 }

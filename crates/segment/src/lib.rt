@@ -37,7 +37,7 @@ pub enum Verdict {
 
 // What the regular search shows: the count that it reached, the quotients that it drew to get there, the least residue below that count,
 // and the argument that has it.
-#[derive(Clone, Copy)]
+#[derive(Clone, Copy, Debug, PartialEq, Eq)]
 pub struct Regular {
     pub count: u64,
     pub quotients: u32,
@@ -47,7 +47,7 @@ pub struct Regular {
 }
 
 // What the fine search shows: the same, with the label (index, part) of the configuration that it reached in place of the quotients.
-#[derive(Clone, Copy)]
+#[derive(Clone, Copy, Debug, PartialEq, Eq)]
 pub struct Fine {
     pub count: u64,
     pub index: u32,

@@ -13,7 +13,7 @@ use crate::walk::Walk;
 
 // What a verdict needs of a state. wide: at an odd row, whether the start lies in a long gap. Once
 // done, only the distance has a meaning: it is that of the search. Flags, and no variants of an enum:
-// an odd row selects by the one without a branch, and a row makes the other with all its numbers.
+// an odd row selects by the one without a branch, and the walk of all searches asks for the other.
 #[derive(Clone, Copy)]
 pub(crate) struct Sketch {
     pub(crate) long: u64,

@@ -17,8 +17,8 @@ use numbers::{min, saturating_sub};
 
 // longs gaps of length long and shorts gaps of length short, after part cuts of the row index; the
 // argument of least residue below the count longs + shorts, and its residue, the distance. Done:
-// this is the configuration that the search reaches. A flag, and no variant of an enum: the same
-// numbers are there and read in both cases.
+// this is the configuration that the search reaches. A flag, and no variant of an enum: what is
+// shown of a state is there in both cases.
 #[derive(Clone, Copy)]
 pub(crate) struct State {
     pub(crate) long: u64,
@@ -311,8 +311,8 @@ impl CutRow {
     }
 }
 
-// The regular search. The fine one beside it differs in its step alone; one impl for both would
-// need a parameter that says which, and a test of it in each row: no plainer.
+// The regular search. The fine one beside it differs in its step alone. Two impls of five lines that
+// name their search, and no const parameter with a choice in each: no plainer.
 pub(crate) struct RegularWalk;
 
 impl Walk for RegularWalk {

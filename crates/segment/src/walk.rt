@@ -10,7 +10,7 @@ use crate::Segment;
 const BUDGET: u32 = 29;
 
 // A search, row by row. Even and odd rows are two functions: one that asks which row it takes made
-// a search some 7% slower.
+// a search some 7% slower, and a const parameter on a trait's method gets no proof.
 pub(crate) trait Walk {
     // Where the search stands between two rows.
     type State: Copy;

@@ -41,7 +41,7 @@ impl<'a> Reader<'a> {
     }
 
     // The same with a signed number whose size is below 2^63: a minus sign before one that is not
-    // 0, and no other sign.
+    // 0, and no other sign. Two methods: they share three lines, and the call between differs.
     #[tactic(auto, using(crate::proofs::Names::name_first), unfolding(crate::specs::Reading::signed_field_at))]
     pub fn signed_field(&mut self, name: &[u8]) -> Option<i64>
         ensures { MatchOption result

@@ -64,7 +64,8 @@ impl<'a> Writer<'a> {
     pub fn put_number(&mut self, n: u64)
         ensures { Wrote self.old (decimal n) self.new }
     {
-        // Not the kit's itoa: must-fail/digits_skipped.edit, which may not change, is of this loop.
+        // Not the kit's itoa: must-fail/digits_skipped.edit, which may not change, is of this loop, and
+        // the product's rules allow no table of digits.
         let mut digits = [0u8; 20];
         let mut first = 19;
         let mut left = n;

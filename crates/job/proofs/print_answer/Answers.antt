@@ -27,7 +27,7 @@ slice_bounds-put_report-end-in-Ok-2 c =
 
 pub returns-in-Err : goal.returns-in-Err
 returns-in-Err c =
-    rw (output_refused c.args.job (sym c.search.ensures.value ∙ c.in-Err.is), sym c.from.ensures) c.put_refusal.ensures
+    rw (output_refused c.args.job (sym c.search.ensures.value ∙ c.in-Err.is)) c.put_refusal.ensures
 
 pub returns-in-Ok : goal.returns-in-Ok
 returns-in-Ok c =
