@@ -22,6 +22,7 @@ pub(crate) struct Scan {
 
 // A line keeps its slope. The compiler takes this test out of a scan's loop and makes two loops of
 // it.
+// Three parameters and no struct: the point changes from turn to turn, and the others stay.
 fn next(point: Point, second: u64, modulus: u64) -> Point
     requires { PointBelow second modulus point }
     ensures { result ≡ next_point second modulus point }
