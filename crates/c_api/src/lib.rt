@@ -1,6 +1,8 @@
 // The calls as C functions: numbers in, the answer into the caller's memory. Each contract is by the definition of the call's answer, and by what that leaves in memory.
 // A pointer that is passed points to as many numbers as its array type says, or to one, and no two of them overlap: that is C's side to keep. A list is
 // two arguments in C, the pointer and after it a usize, the number of its places; it points to so many. The values beside it are two more.
+// Each function returns 0 or the number of the refusal, and so has the same match: a C function is one
+// name with its own pointers.
 #![tactic(auto)]
 
 ghost use Rattle.std.specs.Prelude.{◌≡◌, length};

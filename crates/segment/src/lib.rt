@@ -104,7 +104,8 @@ pub fn regular_verdict(segment: Segment) -> Verdict
     judge(sketch.distance, segment.window)
 }
 
-// The first condition that does not hold: those of the expansion of the modulus and the step, then a
+// The first condition that does not hold (in contracts the five numbers stand one by one, as in the
+// definitions): those of the expansion of the modulus and the step, then a
 // start below the modulus, a count from 1 to 1,048,576, a window from 1 to the modulus.
 pub fn refuse(segment: Segment) -> Result<(), Refusal>
     ensures { result ≡ tested (refusal (asked segment.modulus segment.step segment.start segment.count segment.window)) }

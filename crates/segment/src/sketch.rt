@@ -38,6 +38,7 @@ impl Walk for DistanceWalk {
     ghost CanGoOn = { Divisible };
 
     fn first(segment: Segment) -> Sketch {
+        // Field by field: a sketch is a state without its argument, and not one inside it.
         let state = State::first(segment);
         Sketch {
             long: state.long,

@@ -39,7 +39,8 @@ struct Cuts {
     rest: u64,
 }
 
-// The point below the start: its argument and its residue.
+// The point below the start: its argument and its residue. A state has both as fields of its own,
+// since the promises of steps (`StepsCorrect`) name them so.
 #[derive(Clone, Copy)]
 struct Nearest {
     argument: u64,
