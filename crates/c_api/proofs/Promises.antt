@@ -4,8 +4,8 @@ use Rattle.numbers.specs.Checklist.{Check, conditions, first_failing, AllHold, R
 use Rattle.numbers.specs.Refusals.{named, outcome, number_in}
 use Rattle.numbers.specs.declared.refusals.Refusal.{Refusal}
 use Rattle.numbers.proofs.Equivalences.{through}
-use Rattle.numbers.proofs.Checklists.{AllNumbers, accepts, refuses, refused_old}
-use Rattle.numbers.proofs.Outcomes.{IsNamed, failing_number, all_numbered, number_positive}
+use Rattle.numbers.proofs.Checklists.{unrefused_new, AllNumbers, accepts, refuses, refused_old}
+use Rattle.numbers.proofs.Outcomes.{IsNamed, failing_number, all_numbered}
 use Rattle.expansion.specs.Rows.{period}
 use Rattle.expansion.specs.Answer.{answer}
 use Rattle.expansion.specs.declared.Table.{Table}
@@ -15,8 +15,8 @@ use Rattle.geometry.specs.Segment.{Segment, segment}
 use Rattle.segment.specs.Accepted as segments
 use Rattle.segment.specs.Answer.{regular_answer, fine_answer}
 use Rattle.domain.specs.declared.Domain.{Domain}
-use Rattle.domain.specs.Answer.{domain_checks, domain_number, domain_answer, list_after, values_after, scan_checks, scan_number, scan_answer, scan_list_after, scan_values_after}
-use Rattle.c_api.specs.Memory.{handed, Delivered, number_memory, verdict_number, marks_memory}
+use Rattle.domain.specs.Answer.{mark_numbers_after, domain_checks, domain_number, domain_answer, list_after, values_after, scan_checks, scan_number, scan_answer, scan_list_after, scan_values_after}
+use Rattle.c_api.specs.Memory.{handed, Delivered, number_memory, verdict_number}
 use Rattle.c_api.specs.Promise.{Promised}
 use Rattle.c_api.proofs.Memory.{unchanged}
 
@@ -52,11 +52,6 @@ left_holds : (r : Result ℕ Refusal) (P : ℕ → Type 0) (old : ℕ) → IsOkA
 left_holds (Ok y) P old h = h
 left_holds (Err e) P old h = absurd h
 
--- what is the same for every answer is there where an answer has no number
-handed_alike : {A B : Type 0} (over : B) (r : Result A Refusal) (old : B) → number_in r ≡ 0 → handed (λ (a : A). over) r old ≡ over
-handed_alike over (Ok a) old e = refl
-handed_alike over (Err r) old e = absurd (omega (arith, e, number_positive r))
-
 -- the numbers of each call's checklist are those of refusals
 arguments_named : (M a x : ℕ) → AllNumbers IsNamed (conditions (argument_checks M a x))
 unfolding named
@@ -79,7 +74,7 @@ unfolding named
 domains_named d m n = (refl, (refl, (refl, (refl, (refl, (refl, (refl, (refl, tt))))))))
 
 pub promised : Promised
-unfolding verdict_number residue_answer divide_answer argument_refusal target_refusal regular_answer fine_answer scan_answer domain_answer segments.refusal scan_number domain_number scan_list_after scan_values_after marks_memory list_after values_after
+unfolding verdict_number residue_answer divide_answer argument_refusal target_refusal regular_answer fine_answer scan_answer domain_answer segments.refusal scan_number domain_number scan_list_after scan_values_after mark_numbers_after list_after values_after
 promised =
     record {
       expand_numbers = λ M a n m m' us qs ks us' qs' ks' t e. delivered (answer M a) (ap number_in e) (rw e refl);
@@ -120,7 +115,8 @@ promised =
       domain_unchanged = λ d n marks list values searched e.
           let all = domains_named d (length list) (length values) in
           let cs = domain_checks d (length list) (length values) in
-          (unchanged _ _ marks e, kept cs _ _ list all e, kept cs _ _ values all e, unchanged _ _ searched e);
-      domain_marks = λ d marks list values e. handed_alike _ (domain_answer d (length list) (length values)) marks e;
+          (kept cs _ _ marks all e, kept cs _ _ list all e, kept cs _ _ values all e, unchanged _ _ searched e);
+      domain_marks = λ d marks list values e.
+          unrefused_new _ marks (sym (failing_number (domain_checks d (length list) (length values)) _ (domains_named d (length list) (length values))) ∙ e);
       domain_numbers = λ v n searched. refl;
     }

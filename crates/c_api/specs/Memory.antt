@@ -9,8 +9,6 @@ use Rattle.segment.specs.declared.Verdict.TheVariants.{Clear, Possible}
 use Rattle.segment.specs.declared.Regular.{Regular}
 use Rattle.segment.specs.declared.Fine.{Fine}
 use Rattle.domain.specs.declared.Domain.{Domain}
-use Rattle.domain.specs.Marks.{mark_numbers}
-use Rattle.domain.specs.Answer.{marks_of, domain_answer}
 use Rattle.domain.specs.declared.Searched.{Searched}
 
 -- what stands in the memory after a call: what its answer shows, handed over, or what was there before a refusal
@@ -62,7 +60,3 @@ domain_of o M c0 c1 s N w = record { origin = o; modulus = M; value = c0; slope 
 -- the two numbers that a domain search leaves beside its marks, its list and its values: phase 1's verdict and how many arguments are listed, or what was there
 abbrev pub domain_memory : Result Searched Refusal → (old : List ℕ) → List ℕ
 domain_memory a old = handed (λ (s : Searched). verdict_number s.first ∷ s.listed ∷ []) a old
-
--- the eight marks that it leaves, by their numbers, or what was there
-unfoldable pub marks_memory : Domain → (list_places value_places : ℕ) → (old : List ℕ) → List ℕ
-marks_memory d m n old = handed (λ (s : Searched). mark_numbers (marks_of d)) (domain_answer d m n) old

@@ -15,11 +15,11 @@ use Rattle.segment.specs.declared.Verdict.{Verdict}
 use Rattle.segment.specs.declared.Verdict.TheVariants.{Clear, Possible}
 use Rattle.segment.specs.declared.Regular.{Regular}
 use Rattle.segment.specs.declared.Fine.{Fine}
-use Rattle.domain.specs.Answer.{domain_answer, marks_of, list_after, values_after, scan_answer, scan_list_after, scan_values_after}
+use Rattle.domain.specs.Answer.{domain_answer, marks_of, mark_numbers_after, list_after, values_after, scan_answer, scan_list_after, scan_values_after}
 use Rattle.domain.specs.Marks.{mark_numbers}
 use Rattle.domain.specs.Promise as domain_promise
 use Rattle.domain.specs.declared.Domain.{Domain}
-use Rattle.c_api.specs.Memory.{memory, Delivered, digits_memory, count_memory, number_memory, verdict_number, regular_memory, fine_memory, scan_memory, domain_of, domain_memory, marks_memory}
+use Rattle.c_api.specs.Memory.{memory, Delivered, digits_memory, count_memory, number_memory, verdict_number, regular_memory, fine_memory, scan_memory, domain_of, domain_memory}
 
 -- residues, divisions, searches, scans and domains return 0 exactly where all holds that is asked, of a scan or a domain also that list and values have places enough; another number exactly
 -- where that number refuses, and then the memory is as it was. The expansion and digits return their answer's number
@@ -72,9 +72,9 @@ pub record Promised : Type 0 where
   pub domain_refused : (d : Domain) (n : ℕ) (list values : List ℕ) → (number_in (domain_answer d (length list) (length values)) ≡ suc n)
       ↔ domain_promise.RefusedFor d (length list) (length values) (suc n)
   pub domain_unchanged : (d : Domain) (n : ℕ) (marks list values searched : List ℕ) → number_in (domain_answer d (length list) (length values)) ≡ suc n
-      → (marks_memory d (length list) (length values) marks ≡ marks) × (list_after d (length values) list ≡ list) × (values_after d (length list) values ≡ values)
+      → (mark_numbers_after d (length list) (length values) marks ≡ marks) × (list_after d (length values) list ≡ list) × (values_after d (length list) values ≡ values)
       × (domain_memory (domain_answer d (length list) (length values)) searched ≡ searched)
   pub domain_marks : (d : Domain) (marks list values : List ℕ) → number_in (domain_answer d (length list) (length values)) ≡ 0
-      → marks_memory d (length list) (length values) marks ≡ mark_numbers (marks_of d)
+      → mark_numbers_after d (length list) (length values) marks ≡ mark_numbers (marks_of d)
   pub domain_numbers : (first : Verdict) (listed : ℕ) (searched : List ℕ)
       → domain_memory (Ok (record { first = first; listed = listed })) searched ≡ verdict_number first ∷ listed ∷ []

@@ -10,12 +10,9 @@ ghost use Rattle.numbers.specs.Refusals.{number_in};
 ghost use Rattle.expansion.specs.Answer.{answer};
 ghost use Rattle.ostrowski.specs.Answer.{digits_answer, residue_answer, divide_answer};
 ghost use Rattle.segment.specs.Answer.{regular_answer, fine_answer};
-ghost use Rattle.domain.specs.Answer.{scan_answer, scan_list_after, scan_values_after, domain_answer, list_after, values_after};
-ghost use Rattle.domain.specs.Marks.{mark_number, mark_numbers};
+ghost use Rattle.domain.specs.Answer.{scan_answer, scan_list_after, scan_values_after, domain_answer, mark_numbers_after, list_after, values_after};
 ghost use Rattle.range.specs.Range.{start_of, count_of};
-ghost use Rattle.c_api.specs.Memory.{memory, Delivered, digits_memory, count_memory, number_memory, verdict_number, regular_memory, fine_memory, scan_memory, domain_of, domain_memory, marks_memory};
-
-use domain::Mark;
+ghost use Rattle.c_api.specs.Memory.{memory, Delivered, digits_memory, count_memory, number_memory, verdict_number, regular_memory, fine_memory, scan_memory, domain_of, domain_memory};
 
 // expansion::expand: returns 0 or the refusal. The table's columns and its last row's index are left as they were on a refusal.
 #[unsafe(no_mangle)]
@@ -232,7 +229,7 @@ pub extern "C" fn geyserdish_search_domain(
     ensures returned { result ≡ number_in (domain_answer (domain_of origin modulus value slope curve count window) (length list.old) (length values.old)) }
     ensures list_after { list.new ≡ list_after (domain_of origin modulus value slope curve count window) (length values.old) list.old }
     ensures values_after { values.new ≡ values_after (domain_of origin modulus value slope curve count window) (length list.old) values.old }
-    ensures marks_after { marks.new ≡ marks_memory (domain_of origin modulus value slope curve count window) (length list.old) (length values.old) marks.old }
+    ensures marks_after { marks.new ≡ mark_numbers_after (domain_of origin modulus value slope curve count window) (length list.old) (length values.old) marks.old }
     ensures searched_after { searched.new ≡ domain_memory (domain_answer (domain_of origin modulus value slope curve count window) (length list.old) (length values.old)) searched.old }
 {
     let domain = domain::Domain {
@@ -244,11 +241,9 @@ pub extern "C" fn geyserdish_search_domain(
         count,
         window,
     };
-    let mut seen = [Mark::Unseen; 8];
-    match domain::search_domain(domain, &mut seen, list, values) {
+    match domain::search_domain(domain, marks, list, values) {
         Err(refusal) => u32::from(refusal),
         Ok(found) => {
-            *marks = numbers_of(seen);
             *searched = [number_of(found.first), found.listed as u64];
             0
         }
@@ -265,17 +260,6 @@ pub extern "C" fn geyserdish_range(list: &[u64], lo: u64, hi: u64, start: &mut u
     *start = place.start as u64;
     let part = range::range(list, lo, hi);
     part.len() as u64
-}
-
-// Marks by their numbers, as the C interface has them.
-fn numbers_of(marks: [Mark; 8]) -> [u8; 8]
-    ensures { result ≡ mark_numbers marks }
-{
-    marks.map(
-        |mark| -> u8
-            ensures { result ≡ mark_number mark }
-        { u8::from(mark) },
-    )
 }
 
 // Clear is 1 and possible 0: numbers of the C interface, and no conversion of the search's own.

@@ -18,6 +18,7 @@ use Rattle.arc.specs.Arc as arc
 use Rattle.domain.specs.Domain.{parabola_of, centred_of, hard_arguments, listed_arguments, hard_values}
 use Rattle.domain.specs.Scan.{listed_from, lowered_values}
 use Rattle.domain.specs.Phases.{marks}
+use Rattle.domain.specs.Marks.{mark_numbers}
 use Rattle.domain.specs.declared.Domain.{Domain}
 use Rattle.domain.specs.declared.Searched.{Searched}
 use Rattle.domain.specs.declared.marks.Mark.{Mark}
@@ -63,6 +64,10 @@ marks_of d = marks (centred_of d)
 -- the caller's marks then
 unfoldable pub marks_after : Domain → (list_places value_places : ℕ) → (old : List Mark) → List Mark
 marks_after d m n old = unless_refused (domain_number d m n) (marks_of d) old
+
+-- and where the caller has the numbers of marks
+unfoldable pub mark_numbers_after : Domain → (list_places value_places : ℕ) → (old : List ℕ) → List ℕ
+mark_numbers_after d m n old = unless_refused (domain_number d m n) (mark_numbers (marks_of d)) old
 
 -- the caller's list: the hard arguments, each as origin + x, from the first place on, and the places after them as they were
 unfoldable pub list_after : Domain → (value_places : ℕ) → (old : List ℕ) → List ℕ

@@ -13,7 +13,8 @@ ghost use Rattle.segment.specs.Accepted.{asked, Accepted as AcceptedSegment};
 ghost use Rattle.parabola.specs.Parabola.{covering, line};
 ghost use Rattle.domain.specs.Domain.{centred_of, Accepted};
 ghost use Rattle.domain.specs.Scanned.{scanned};
-ghost use Rattle.domain.specs.Answer.{too_few, answer_with, marks_with, list_with, values_with, domain_answer, marks_after, list_after, values_after, scan_answer, scan_list_after, scan_values_after};
+ghost use Rattle.domain.specs.Marks.{mark_number, mark_numbers};
+ghost use Rattle.domain.specs.Answer.{too_few, answer_with, marks_with, list_with, values_with, domain_answer, marks_after, mark_numbers_after, list_after, values_after, scan_answer, scan_list_after, scan_values_after};
 
 mod marks;
 mod phases;
@@ -113,7 +114,7 @@ fn line(segment: Segment) -> Scan
 // 1,048,576, else for an origin above 2^52, else for room where the list or the values have fewer
 // places than there are hard arguments. On a refusal marks, list and values are as they were. List
 // and values are two buffers, and no list of pairs: C lends them so.
-pub fn search_domain(
+pub fn search(
     domain: Domain,
     marks: &mut [Mark; 8],
     list: &mut [u64],
@@ -152,6 +153,36 @@ pub fn search_domain(
             Verdict::Possible => search_parts(scan, marks, list, values),
         }
     }
+}
+
+// The same, with the numbers of the marks, which are what they were on a refusal, whatever numbers they
+// were.
+pub fn search_domain(
+    domain: Domain,
+    marks: &mut [u8; 8],
+    list: &mut [u64],
+    values: &mut [u64],
+) -> Result<Searched, Refusal>
+    ensures value { result ≡ domain_answer domain (length list.old) (length values.old) }
+    ensures marks_after { marks.new ≡ mark_numbers_after domain (length list.old) (length values.old) marks.old }
+    ensures list_after { list.new ≡ list_after domain (length values.old) list.old }
+    ensures values_after { values.new ≡ values_after domain (length list.old) values.old }
+{
+    let mut seen = [Mark::Unseen; 8];
+    let found = search(domain, &mut seen, list, values)?;
+    *marks = numbers_of(seen);
+    Ok(found)
+}
+
+// Marks by their numbers.
+fn numbers_of(marks: [Mark; 8]) -> [u8; 8]
+    ensures { result ≡ mark_numbers marks }
+{
+    marks.map(
+        |mark| -> u8
+            ensures { result ≡ mark_number mark }
+        { u8::from(mark) },
+    )
 }
 
 // What the phases search. Raised by w - 1, the values that lie less than w from a multiple of the

@@ -106,7 +106,7 @@ fn search(
     ensures values_after { values.new ≡ job_values job (length list.old) values.old }
 {
     match job {
-        Some(domain) => domain::search_domain(domain, marks, list, values),
+        Some(domain) => domain::search(domain, marks, list, values),
         None => Err(Refusal::Malformed),
     }
 }

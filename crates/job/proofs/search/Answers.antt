@@ -7,7 +7,7 @@ use Rattle.job.proofs.search.Goals as goal
 pub returns-in-Some : goal.returns-in-Some
 unfolding job_answer job_marks job_list job_values
 returns-in-Some c =
-    let s = c.search_domain.ensures in
+    let s = c.search.ensures in
     rw c.in-Some.is
     (record { value = s.value; marks_after = s.marks_after; list_after = s.list_after; values_after = s.values_after })
 

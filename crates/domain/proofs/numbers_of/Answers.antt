@@ -1,9 +1,9 @@
--- `c_api::numbers_of` meets its contract: each number is that of its mark. Assumes nothing.
+-- `domain::numbers_of` meets its contract: each number is that of its mark. Assumes nothing.
 use Rattle.std.proofs.Common.{◌≡◌, length, arith, sym, ◌∙◌}
 use Rattle.std.proofs.lemmas.List.{ext_get_or, length-map, get_or-map}
 use Rattle.domain.specs.Marks.{mark_number}
 use Rattle.domain.specs.declared.marks.Mark.TheVariants.{Unseen}
-use Rattle.c_api.proofs.numbers_of.Goals as goal
+use Rattle.domain.proofs.numbers_of.Goals as goal
 
 pub returns : goal.returns
 returns c =
