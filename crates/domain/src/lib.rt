@@ -155,8 +155,8 @@ pub fn search(
     }
 }
 
-// The same, with the numbers of the marks, which are what they were on a refusal, whatever numbers they
-// were.
+// The same with the numbers of the marks, as C and others lend them: any eight, and a refusal leaves
+// them as they were.
 pub fn search_domain(
     domain: Domain,
     marks: &mut [u8; 8],
