@@ -34,8 +34,8 @@ use Rattle.arc.specs.Arc as arcs
 use Rattle.arc.proofs.Promises as arc
 use Rattle.domain.specs.Domain.{parabola_of, centred_of, hard_arguments, listed_arguments, hard_values, covering_of, part_covering, Searchable, Accepted, with_origin}
 use Rattle.domain.specs.Scan.{next_point}
-use Rattle.domain.specs.Answer.{room, domain_checks, domain_number, found, answer_with, domain_answer, marks_of, marks_after, list_after, values_after, hard_residues, scan_checks, scan_number, scan_answer, scan_list_after, scan_values_after}
-use Rattle.domain.specs.Promise.{ParabolaCorrect, ValueInNumbers, HardInNumbers, ListedInNumbers, BesideInNumbers, ValuesBeside, ResidueInSegment, HardInSegment, CoveringsCorrect, WithoutWindow, MarksCorrect, DomainCorrect, OriginCorrect, ScanCorrect, Promised}
+use Rattle.domain.specs.Answer.{room, domain_checks, domain_number, found, answer_with, domain_answer, marks_of, marks_after, mark_numbers_after, list_after, values_after, hard_residues, scan_checks, scan_number, scan_answer, scan_list_after, scan_values_after}
+use Rattle.domain.specs.Promise.{ParabolaCorrect, ValueInNumbers, HardInNumbers, ListedInNumbers, BesideInNumbers, ValuesBeside, ResidueInSegment, HardInSegment, CoveringsCorrect, WithoutWindow, MarksCorrect, DomainCorrect, MarkNumbersCorrect, OriginCorrect, ScanCorrect, Promised}
 use Rattle.domain.specs.declared.Domain.{Domain}
 use Rattle.domain.specs.Marks.{mark_numbers}
 use Rattle.domain.specs.declared.Searched.{Searched}
@@ -212,6 +212,30 @@ module _ (d : Domain) (old_marks : List Mark) (old old_values : List ℕ) where
             λ x h. (phases_correct d a).first_none clear x h,
           )
 
+-- ---- the marks by their numbers
+
+module _ (d : Domain) (m n : ℕ) (old : List ℕ) where
+  mark_numbers_correct : MarkNumbersCorrect d old (domain_answer d m n) (mark_numbers_after d m n old)
+  unfolding domain_answer mark_numbers_after
+  mark_numbers_correct =
+      record {
+        unchanged = λ r e. refused_old (domain_number d m n) _ old (refused_number (domain_number d m n) (found (centred_of d)) e);
+        marked = λ s e. let r = (shows (domain_number d m n) (found (centred_of d))).0 e in
+            rw (unrefused_new (mark_numbers (marks_of d)) old r.0, r.1)
+            (marks_correct d ((number_accepts d m n).0 r.0).0.searchable (verdict regular (covering_of d)));
+        written = λ s e. unrefused_new (mark_numbers (marks_of d)) old ((shows (domain_number d m n) (found (centred_of d))).0 e).0;
+      }
+
+-- what is done to the new and the old is done to what is left
+unless_refused_of : {A B : Type 0} (f : A → B) (k : ℕ) (new old : A) → f (unless_refused k new old) ≡ unless_refused k (f new) (f old)
+unfolding unless_refused
+unless_refused_of f zero new old = refl
+unless_refused_of f (suc k) new old = refl
+
+by_number : (d : Domain) (old : List Mark) (m n : ℕ) → mark_numbers (marks_after d m n old) ≡ mark_numbers_after d m n (mark_numbers old)
+unfolding marks_after mark_numbers_after
+by_number d old m n = unless_refused_of mark_numbers (domain_number d m n) (marks_of d) old
+
 -- ---- another origin
 
 -- an origin that is not refused does not change the number
@@ -225,6 +249,8 @@ origin_correct d o old_marks old old_values h k =
       is = refl;
       same_answer = same_answer;
       same_marks = unfold marks_after in ap (λ (n : ℕ). unless_refused n (marks_of d) old_marks) same_number;
+      same_mark_numbers = λ numbers. unfold mark_numbers_after in
+          ap (λ (n : ℕ). unless_refused n (mark_numbers (marks_of d)) numbers) same_number;
       same_values = unfold values_after in ap (λ (n : ℕ). unless_refused n (overwrite_front (hard_values d) old_values) old_values) same_number;
       moved = λ s e i l.
           let here = domain_correct d old_marks old old_values in
@@ -364,6 +390,8 @@ promised =
       accepted = λ d. (λ a. (a.searchable, a.origin_within), λ h. record { searchable = h.0; origin_within = h.1 });
       searchable = λ d. (λ a. omega arith, λ h. omega arith);
       listed_are = listed_are;
+      mark_numbers_left = λ d old m n. mark_numbers_correct d m n old;
+      by_number = λ d old m n. by_number d old m n;
       origins = origin_correct;
       coverings = coverings_correct;
       eight_parts = λ d. (parabola.promised).eight_parts d.count;

@@ -27,7 +27,7 @@ use Rattle.segment.proofs.Laws.{verdict_iff, regular_shows, fine_shows}
 use Rattle.parabola.specs.Parabola as parabola
 use Rattle.parabola.specs.Parabola.{triangle, value_at, slope_at, spread, covering_step, start_over, covering_start, covering_window, continued, part_count, part_start}
 use Rattle.domain.specs.Phases.{mark_of, mark_with, marks_by}
-use Rattle.domain.specs.Answer.{domain_number, domain_answer, marks_after, list_after, values_after, scan_number, scan_answer, scan_list_after, scan_values_after}
+use Rattle.domain.specs.Answer.{domain_number, domain_answer, marks_after, mark_numbers_after, list_after, values_after, scan_number, scan_answer, scan_list_after, scan_values_after}
 use Rattle.text.specs.Text.{decimal_within, decimal}
 use Rattle.text.specs.Reading.{starts, takes_digit, digits_from, number_from, field_at, signed_field_at}
 use Rattle.job.specs.Reading.{rest_from, lines_from, reading}
@@ -109,13 +109,13 @@ example_9 =
     }
 
 domains : Example10 × Example11 × BothSides × AnyLength × WindowsFrom1 × ValuesBesideArguments × CountedFromTheBinade
-unfolding dec_le dec_lt Dec.and ranged first_failing outcome named unless_refused rows_from expansion regular_from regular parts_from fine_from fine configurations_of reached_in reached residue least_from argument distance verdict_at segments.refusal regular_shown fine_shown regular_answer fine_answer filter_range tabulate overwrite_front ◌modulo◌ triangle value_at slope_at geometry.is_hard geometry.hard_list parabola.is_hard parabola.hard_list parabola.centred spread covering_step start_over covering_start covering_window continued part_count part_start mark_of mark_with marks_by scan_number scan_answer scan_list_after scan_values_after domain_number domain_answer marks_after list_after values_after decimal_within decimal starts takes_digit digits_from number_from field_at signed_field_at rest_from lines_from reading verdict_name argument_lines refused report printed_for printed output_with output_of
+unfolding dec_le dec_lt Dec.and ranged first_failing outcome named unless_refused rows_from expansion regular_from regular parts_from fine_from fine configurations_of reached_in reached residue least_from argument distance verdict_at segments.refusal regular_shown fine_shown regular_answer fine_answer filter_range tabulate overwrite_front ◌modulo◌ triangle value_at slope_at geometry.is_hard geometry.hard_list parabola.is_hard parabola.hard_list parabola.centred spread covering_step start_over covering_start covering_window continued part_count part_start mark_of mark_with marks_by scan_number scan_answer scan_list_after scan_values_after domain_number domain_answer marks_after mark_numbers_after list_after values_after decimal_within decimal starts takes_digit digits_from number_from field_at signed_field_at rest_from lines_from reading verdict_name argument_lines refused report printed_for printed output_with output_of
 domains = (
   record {
     prints = refl;
     read = refl;
     answered = refl;
-    marks = λ old. refl;
+    marks = (λ old. refl, λ old. refl);
     left = λ x y z. refl;
     values = λ x y z. refl;
     covered = refl;
@@ -125,17 +125,17 @@ domains = (
   },
   record {
     rising = refl;
-    rising_marks = λ old. refl;
+    rising_marks = (λ old. refl, λ old. refl);
     rising_left = λ x y. refl;
     rising_values = λ x y. refl;
     falling = refl;
-    falling_marks = λ old. refl;
+    falling_marks = (λ old. refl, λ old. refl);
     falling_left = λ x y. refl;
     falling_values = λ x y. refl;
   },
   record {
     line_2 = refl;
-    line_2_marks = λ old. refl;
+    line_2_marks = (λ old. refl, λ old. refl);
     line_2_left = λ x y. refl;
     line_2_values = λ x y. refl;
     line_6 = refl;
@@ -150,12 +150,12 @@ domains = (
     below_6_left = refl;
     below_6_values = refl;
     rising = refl;
-    rising_marks = λ old. refl;
+    rising_marks = (λ old. refl, λ old. refl);
     rising_left = λ x y. refl;
     rising_values = λ x y. refl;
     rising_covered = refl;
     falling = refl;
-    falling_marks = λ old. refl;
+    falling_marks = (λ old. refl, λ old. refl);
     falling_left = λ x y. refl;
     falling_values = λ x y. refl;
     falling_covered = refl;
@@ -169,20 +169,20 @@ domains = (
     answered_12 = refl;
     left_12 = λ x y z. refl;
     values_12 = λ x y z. refl;
-    marks_3 = λ old. refl;
+    marks_3 = (λ old. refl, λ old. refl);
     left_3 = λ x y. refl;
     values_3 = λ x y. refl;
     rising = refl;
-    rising_marks = λ old. refl;
+    rising_marks = (λ old. refl, λ old. refl);
     rising_left = λ x y. refl;
     rising_values = λ x y. refl;
     falling = refl;
-    falling_marks = λ old. refl;
+    falling_marks = (λ old. refl, λ old. refl);
     falling_left = λ x y. refl;
     falling_values = λ x y. refl;
     prints_cleared = refl;
     cleared_3 = refl;
-    cleared_3_marks = λ old. refl;
+    cleared_3_marks = (λ old. refl, λ old. refl);
     prints_refused = refl;
     refused_0 = refl;
     refused_more = refl;
@@ -206,7 +206,7 @@ domains = (
     prints_above = refl;
     prints_M = refl;
     domain_0 = λ m n. refl;
-    marks_0 = λ m n old. refl;
+    marks_0 = λ m n. (λ old. refl, λ old. refl);
     left_0 = λ n old. refl;
     values_0 = λ m old. refl;
     domain_1 = refl;
@@ -226,11 +226,11 @@ domains = (
     scan_values_short_left = λ x y. refl;
     scan_values_short_values = λ x. refl;
     domain_list_short = refl;
-    domain_list_short_marks = λ old. refl;
+    domain_list_short_marks = (λ old. refl, λ old. refl);
     domain_list_short_left = λ x. refl;
     domain_list_short_values = λ x y. refl;
     domain_values_short = refl;
-    domain_values_short_marks = λ old. refl;
+    domain_values_short_marks = (λ old. refl, λ old. refl);
     domain_values_short_left = λ x y. refl;
     domain_values_short_values = λ x. refl;
     scan_longer_list = λ x y z. refl;
@@ -255,14 +255,14 @@ domains = (
     prints_six = refl;
     prints_longer = refl;
     answered = refl;
-    marks = λ old. refl;
+    marks = (λ old. refl, λ old. refl);
     left = λ x y z. refl;
     values = λ x y z. refl;
     curve_and_above = λ m n. refl;
     above_alone = λ m n. refl;
     most_alone = λ m n. refl;
     too_few = refl;
-    above_marks = λ m n old. refl;
+    above_marks = λ m n. (λ old. refl, λ old. refl);
     above_left = λ n old. refl;
     above_values = λ m old. refl;
   },

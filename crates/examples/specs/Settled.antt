@@ -15,7 +15,7 @@ use Rattle.segment.specs.declared.Verdict.{Verdict}
 use Rattle.segment.specs.declared.Verdict.TheVariants.{Clear, Possible}
 use Rattle.parabola.specs.Parabola.{part_start, part_count}
 use Rattle.domain.specs.Domain.{covering_of}
-use Rattle.domain.specs.Answer.{scan_answer, scan_list_after, scan_values_after, domain_answer, marks_after, list_after, values_after}
+use Rattle.domain.specs.Answer.{scan_answer, scan_list_after, scan_values_after, domain_answer, marks_after, mark_numbers_after, list_after, values_after}
 use Rattle.domain.specs.declared.Domain.{Domain}
 use Rattle.domain.specs.Marks.{mark_numbers}
 use Rattle.domain.specs.declared.marks.Mark.{Mark}
@@ -136,6 +136,17 @@ JOf n = JWith n (pos 0) 3
 abbrev pub J : Domain
 J = JOf 16
 
+-- the eight marks that a call leaves, by name and by number, whatever they were
+abbrev pub MarksThen : Domain → (list_places value_places : ℕ) → (numbers : List ℕ) → Type 0
+MarksThen d m n numbers =
+    ((old : List Mark) → mark_numbers (marks_after d m n old) ≡ numbers)
+    × ((old : List ℕ) → mark_numbers_after d m n old ≡ numbers)
+
+-- and marks that stay as they were, by name and by number
+abbrev pub MarksStay : Domain → (list_places value_places : ℕ) → Type 0
+MarksStay d m n =
+    ((old : List Mark) → marks_after d m n old ≡ old) × ((old : List ℕ) → mark_numbers_after d m n old ≡ old)
+
 -- job J, bytes in and bytes out, by 02's requests 2.1 and 2.6, and the segment that covers it
 pub record Example10 : Type 0 where
   pub prints : output_of (bytes "modulus=45\nvalue=44\nslope=31\ncurve=0\ncount=16\nwindow=3\n")
@@ -143,7 +154,7 @@ pub record Example10 : Type 0 where
   pub read : reading (bytes "modulus=45\nvalue=44\nslope=31\ncurve=0\ncount=16\nwindow=3\n")
       ≡ Some J
   pub answered : domain_answer J 4096 4096 ≡ Ok (searched Possible 2)
-  pub marks : (old : List Mark) → mark_numbers (marks_after J 4096 4096 old) ≡ 2 ∷ 2 ∷ 1 ∷ 1 ∷ 1 ∷ 1 ∷ 1 ∷ 1 ∷ []
+  pub marks : MarksThen J 4096 4096 (2 ∷ 2 ∷ 1 ∷ 1 ∷ 1 ∷ 1 ∷ 1 ∷ 1 ∷ [])
   pub left : (x y z : ℕ) → list_after J 3 (x ∷ y ∷ z ∷ []) ≡ 0 ∷ 3 ∷ z ∷ []
   pub values : (x y z : ℕ) → values_after J 3 (x ∷ y ∷ z ∷ []) ≡ 44 ∷ 2 ∷ z ∷ []
   pub covered : covering_of J ≡ segment 45 14 1 16 5
@@ -159,11 +170,11 @@ bent s = record { origin = 0; modulus = 45; value = 0; slope = 0; curve = s; cou
 -- with s 1: parts 22111111, list 0, 1 with the values 0, 0. With s -1 the same
 pub record Example11 : Type 0 where
   pub rising : domain_answer (bent (pos 1)) 2 2 ≡ Ok (searched Possible 2)
-  pub rising_marks : (old : List Mark) → mark_numbers (marks_after (bent (pos 1)) 2 2 old) ≡ 2 ∷ 2 ∷ 1 ∷ 1 ∷ 1 ∷ 1 ∷ 1 ∷ 1 ∷ []
+  pub rising_marks : MarksThen (bent (pos 1)) 2 2 (2 ∷ 2 ∷ 1 ∷ 1 ∷ 1 ∷ 1 ∷ 1 ∷ 1 ∷ [])
   pub rising_left : (x y : ℕ) → list_after (bent (pos 1)) 2 (x ∷ y ∷ []) ≡ 0 ∷ 1 ∷ []
   pub rising_values : (x y : ℕ) → values_after (bent (pos 1)) 2 (x ∷ y ∷ []) ≡ 0 ∷ 0 ∷ []
   pub falling : domain_answer (bent (negsuc 0)) 2 2 ≡ Ok (searched Possible 2)
-  pub falling_marks : (old : List Mark) → mark_numbers (marks_after (bent (negsuc 0)) 2 2 old) ≡ 2 ∷ 2 ∷ 1 ∷ 1 ∷ 1 ∷ 1 ∷ 1 ∷ 1 ∷ []
+  pub falling_marks : MarksThen (bent (negsuc 0)) 2 2 (2 ∷ 2 ∷ 1 ∷ 1 ∷ 1 ∷ 1 ∷ 1 ∷ 1 ∷ [])
   pub falling_left : (x y : ℕ) → list_after (bent (negsuc 0)) 2 (x ∷ y ∷ []) ≡ 0 ∷ 1 ∷ []
   pub falling_values : (x y : ℕ) → values_after (bent (negsuc 0)) 2 (x ∷ y ∷ []) ≡ 0 ∷ 0 ∷ []
 
@@ -190,7 +201,7 @@ falling_arc = record { origin = 0; modulus = 45; value = 11; slope = 8; curve = 
 pub record BothSides : Type 0 where
   -- a window of 2 lists 2 and 6, whose values are 9 and 1; a window of 6 lists all
   pub line_2 : domain_answer (line_of_10 2) 2 2 ≡ Ok (searched Possible 2)
-  pub line_2_marks : (old : List Mark) → mark_numbers (marks_after (line_of_10 2) 2 2 old) ≡ 1 ∷ 1 ∷ 2 ∷ 1 ∷ 1 ∷ 1 ∷ 2 ∷ 1 ∷ []
+  pub line_2_marks : MarksThen (line_of_10 2) 2 2 (1 ∷ 1 ∷ 2 ∷ 1 ∷ 1 ∷ 1 ∷ 2 ∷ 1 ∷ [])
   pub line_2_left : (x y : ℕ) → list_after (line_of_10 2) 2 (x ∷ y ∷ []) ≡ 2 ∷ 6 ∷ []
   pub line_2_values : (x y : ℕ) → values_after (line_of_10 2) 2 (x ∷ y ∷ []) ≡ 9 ∷ 1 ∷ []
   pub line_6 : domain_answer (line_of_10 6) 8 8 ≡ Ok (searched Possible 8)
@@ -207,12 +218,12 @@ pub record BothSides : Type 0 where
   pub below_6_values : values_after (constant_of_11 6 6) 8 (replicate 8 0) ≡ replicate 8 6
   -- values 1 and 44 listed; D is 28, the start gains 1, and the window of the covering segment is 2·2 - 1 + 28
   pub rising : domain_answer rising_arc 2 2 ≡ Ok (searched Possible 2)
-  pub rising_marks : (old : List Mark) → mark_numbers (marks_after rising_arc 2 2 old) ≡ 1 ∷ 1 ∷ 1 ∷ 1 ∷ 2 ∷ 1 ∷ 2 ∷ 1 ∷ []
+  pub rising_marks : MarksThen rising_arc 2 2 (1 ∷ 1 ∷ 1 ∷ 1 ∷ 2 ∷ 1 ∷ 2 ∷ 1 ∷ [])
   pub rising_left : (x y : ℕ) → list_after rising_arc 2 (x ∷ y ∷ []) ≡ 4 ∷ 6 ∷ []
   pub rising_values : (x y : ℕ) → values_after rising_arc 2 (x ∷ y ∷ []) ≡ 1 ∷ 44 ∷ []
   pub rising_covered : covering_of rising_arc ≡ segment 45 28 1 8 31
   pub falling : domain_answer falling_arc 2 2 ≡ Ok (searched Possible 2)
-  pub falling_marks : (old : List Mark) → mark_numbers (marks_after falling_arc 2 2 old) ≡ 1 ∷ 1 ∷ 1 ∷ 1 ∷ 1 ∷ 1 ∷ 2 ∷ 2 ∷ []
+  pub falling_marks : MarksThen falling_arc 2 2 (1 ∷ 1 ∷ 1 ∷ 1 ∷ 1 ∷ 1 ∷ 2 ∷ 2 ∷ [])
   pub falling_left : (x y : ℕ) → list_after falling_arc 2 (x ∷ y ∷ []) ≡ 6 ∷ 7 ∷ []
   pub falling_values : (x y : ℕ) → values_after falling_arc 2 (x ∷ y ∷ []) ≡ 44 ∷ 1 ∷ []
   pub falling_covered : covering_of falling_arc ≡ segment 45 37 12 8 31
@@ -241,24 +252,24 @@ pub record AnyLength : Type 0 where
   pub answered_12 : domain_answer (JOf 12) 2 2 ≡ Ok (searched Possible 2)
   pub left_12 : (x y z : ℕ) → list_after (JOf 12) 3 (x ∷ y ∷ z ∷ []) ≡ 0 ∷ 3 ∷ z ∷ []
   pub values_12 : (x y z : ℕ) → values_after (JOf 12) 3 (x ∷ y ∷ z ∷ []) ≡ 44 ∷ 2 ∷ z ∷ []
-  pub marks_3 : (old : List Mark) → mark_numbers (marks_after (JOf 3) 1 1 old) ≡ 2 ∷ 1 ∷ 1 ∷ 3 ∷ 3 ∷ 3 ∷ 3 ∷ 3 ∷ []
+  pub marks_3 : MarksThen (JOf 3) 1 1 (2 ∷ 1 ∷ 1 ∷ 3 ∷ 3 ∷ 3 ∷ 3 ∷ 3 ∷ [])
   pub left_3 : (x y : ℕ) → list_after (JOf 3) 2 (x ∷ y ∷ []) ≡ 0 ∷ y ∷ []
   pub values_3 : (x y : ℕ) → values_after (JOf 3) 2 (x ∷ y ∷ []) ≡ 44 ∷ y ∷ []
   -- hard arguments in longer and in shorter parts. With two arguments the part 6 of the first domain, and the part 4 of the second, would have the next part's
   -- hard argument and not be clear
   pub rising : domain_answer rising_12 2 2 ≡ Ok (searched Possible 2)
-  pub rising_marks : (old : List Mark) → mark_numbers (marks_after rising_12 2 2 old) ≡ 2 ∷ 1 ∷ 1 ∷ 1 ∷ 1 ∷ 1 ∷ 1 ∷ 2 ∷ []
+  pub rising_marks : MarksThen rising_12 2 2 (2 ∷ 1 ∷ 1 ∷ 1 ∷ 1 ∷ 1 ∷ 1 ∷ 2 ∷ [])
   pub rising_left : (x y : ℕ) → list_after rising_12 2 (x ∷ y ∷ []) ≡ 0 ∷ 11 ∷ []
   pub rising_values : (x y : ℕ) → values_after rising_12 2 (x ∷ y ∷ []) ≡ 0 ∷ 0 ∷ []
   pub falling : domain_answer falling_12 2 2 ≡ Ok (searched Possible 2)
-  pub falling_marks : (old : List Mark) → mark_numbers (marks_after falling_12 2 2 old) ≡ 2 ∷ 1 ∷ 1 ∷ 1 ∷ 1 ∷ 2 ∷ 1 ∷ 1 ∷ []
+  pub falling_marks : MarksThen falling_12 2 2 (2 ∷ 1 ∷ 1 ∷ 1 ∷ 1 ∷ 2 ∷ 1 ∷ 1 ∷ [])
   pub falling_left : (x y : ℕ) → list_after falling_12 2 (x ∷ y ∷ []) ≡ 0 ∷ 9 ∷ []
   pub falling_values : (x y : ℕ) → values_after falling_12 2 (x ∷ y ∷ []) ≡ 0 ∷ 0 ∷ []
   -- no part of a cleared domain is looked at, whether it has arguments or not
   pub prints_cleared : output_of (bytes "modulus=11\nvalue=5\nslope=0\ncurve=0\ncount=3\nwindow=5\n")
       ≡ bytes "first=cleared\nparts=00000000\nlisted=0\n"
   pub cleared_3 : domain_answer (constant_of 3 5 5) 0 0 ≡ Ok (searched Clear 0)
-  pub cleared_3_marks : (old : List Mark) → mark_numbers (marks_after (constant_of 3 5 5) 0 0 old) ≡ replicate 8 0
+  pub cleared_3_marks : MarksThen (constant_of 3 5 5) 0 0 (replicate 8 0)
   -- no argument, and too many
   pub prints_refused : output_of (bytes "modulus=45\nvalue=44\nslope=31\ncurve=0\ncount=0\nwindow=3\n") ≡ bytes "refused=4\n"
   pub refused_0 : domain_answer (JOf 0) 4096 4096 ≡ Err Count
@@ -293,7 +304,7 @@ pub record WindowsFrom1 : Type 0 where
       ≡ bytes "first=possible\nparts=22233333\nlisted=3\nargument=0 value=44\nargument=1 value=30\nargument=2 value=16\n"
   -- in the call's answers and buffers
   pub domain_0 : (m n : ℕ) → domain_answer (JWith 16 (pos 0) 0) m n ≡ Err Window
-  pub marks_0 : (m n : ℕ) (old : List Mark) → marks_after (JWith 16 (pos 0) 0) m n old ≡ old
+  pub marks_0 : (m n : ℕ) → MarksStay (JWith 16 (pos 0) 0) m n
   pub left_0 : (n : ℕ) (old : List ℕ) → list_after (JWith 16 (pos 0) 0) n old ≡ old
   pub values_0 : (m : ℕ) (old : List ℕ) → values_after (JWith 16 (pos 0) 0) m old ≡ old
   pub domain_1 : domain_answer (JWith 16 (pos 0) 1) 0 0 ≡ Ok (searched Clear 0)
@@ -317,11 +328,11 @@ pub record ValuesBesideArguments : Type 0 where
   pub scan_values_short_left : (x y : ℕ) → scan_list_after 45 14 44 16 6 1 (x ∷ y ∷ []) ≡ x ∷ y ∷ []
   pub scan_values_short_values : (x : ℕ) → scan_values_after 45 14 44 16 6 2 (x ∷ []) ≡ x ∷ []
   pub domain_list_short : domain_answer J 1 2 ≡ Err Room
-  pub domain_list_short_marks : (old : List Mark) → marks_after J 1 2 old ≡ old
+  pub domain_list_short_marks : MarksStay J 1 2
   pub domain_list_short_left : (x : ℕ) → list_after J 2 (x ∷ []) ≡ x ∷ []
   pub domain_list_short_values : (x y : ℕ) → values_after J 1 (x ∷ y ∷ []) ≡ x ∷ y ∷ []
   pub domain_values_short : domain_answer J 2 1 ≡ Err Room
-  pub domain_values_short_marks : (old : List Mark) → marks_after J 2 1 old ≡ old
+  pub domain_values_short_marks : MarksStay J 2 1
   pub domain_values_short_left : (x y : ℕ) → list_after J 1 (x ∷ y ∷ []) ≡ x ∷ y ∷ []
   pub domain_values_short_values : (x : ℕ) → values_after J 2 (x ∷ []) ≡ x ∷ []
   -- columns of other lengths with places enough in both
@@ -364,7 +375,7 @@ pub record CountedFromTheBinade : Type 0 where
   pub prints_longer : output_of (bytes "origin=0\nmodulus=45\nvalue=44\nslope=31\ncurve=0\ncount=16\nwindow=3\n\n") ≡ bytes "refused=8\n"
   -- in the call's answers and buffers: marks and values are J's
   pub answered : domain_answer (JFrom 4503599627370496 (pos 0)) 2 2 ≡ Ok (searched Possible 2)
-  pub marks : (old : List Mark) → mark_numbers (marks_after (JFrom 4503599627370496 (pos 0)) 2 2 old) ≡ 2 ∷ 2 ∷ 1 ∷ 1 ∷ 1 ∷ 1 ∷ 1 ∷ 1 ∷ []
+  pub marks : MarksThen (JFrom 4503599627370496 (pos 0)) 2 2 (2 ∷ 2 ∷ 1 ∷ 1 ∷ 1 ∷ 1 ∷ 1 ∷ 1 ∷ [])
   pub left : (x y z : ℕ) → list_after (JFrom 4503599627370496 (pos 0)) 2 (x ∷ y ∷ z ∷ []) ≡ 4503599627370496 ∷ 4503599627370499 ∷ z ∷ []
   pub values : (x y z : ℕ) → values_after (JFrom 4503599627370496 (pos 0)) 2 (x ∷ y ∷ z ∷ []) ≡ 44 ∷ 2 ∷ z ∷ []
   -- 6 comes before 11, and 11 before 7; the buffers stay as they were
@@ -372,7 +383,7 @@ pub record CountedFromTheBinade : Type 0 where
   pub above_alone : (m n : ℕ) → domain_answer (JFrom 4503599627370497 (pos 0)) m n ≡ Err Origin
   pub most_alone : (m n : ℕ) → domain_answer (JFrom 18446744073709551615 (pos 0)) m n ≡ Err Origin
   pub too_few : domain_answer (JFrom 4503599627370496 (pos 0)) 1 2 ≡ Err Room
-  pub above_marks : (m n : ℕ) (old : List Mark) → marks_after (JFrom 4503599627370497 (pos 0)) m n old ≡ old
+  pub above_marks : (m n : ℕ) → MarksStay (JFrom 4503599627370497 (pos 0)) m n
   pub above_left : (n : ℕ) (old : List ℕ) → list_after (JFrom 4503599627370497 (pos 0)) n old ≡ old
   pub above_values : (m : ℕ) (old : List ℕ) → values_after (JFrom 4503599627370497 (pos 0)) m old ≡ old
 
