@@ -73,7 +73,7 @@ pub fn point_at(arc: Arc, x: u64) -> Option<Point>
     if arc.count <= x {
         return None;
     }
-    Some(within.point_at(x))
+    Some(within.point(x))
 }
 
 // Whether the regular search clears the covering segment: then V(x) is above the highest hard value

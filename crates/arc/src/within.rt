@@ -1,6 +1,6 @@
 // Arcs within the bounds: what is asked of an arc holds of them, so that points and verdicts need
 // no test.
-ghost use Rattle.std.specs.Prelude.{◌≡◌, ◌≤◌, MatchOption};
+ghost use Rattle.std.specs.Prelude.{◌≡◌, ◌≤◌, ◌<◌, MatchOption};
 ghost use Rattle.expansion.specs.Reached.Search.{regular, fine};
 ghost use Rattle.segment.specs.Search.{verdict};
 ghost use Rattle.parabola.specs.Parabola.{InRange, covering};
@@ -8,6 +8,8 @@ ghost use Rattle.arc.specs.Arc.{parabola, point};
 
 use crate::{Arc, Point, refuse};
 use segment::Verdict;
+
+const LARGEST_COUNT: u64 = 1048576;
 
 #[derive(Clone, Copy)]
 pub struct Within {
@@ -40,7 +42,19 @@ impl Arc {
 }
 
 impl Within {
-    pub fn point_at(self, x: u64) -> Point
+    // None where x is beyond every count, above 2^20. An arc has the other points, those beyond its last
+    // argument too.
+    pub fn point_at(self, x: u64) -> Option<Point>
+        ensures { MatchOption result (1048576 < x)
+            (λ p. (x ≤ 1048576) × (p ≡ point (parabola self.arc) x)) }
+    {
+        if LARGEST_COUNT < x {
+            return None;
+        }
+        Some(self.point(x))
+    }
+
+    pub(crate) fn point(self, x: u64) -> Point
         requires { x ≤ 1048576 }
         ensures { result ≡ point (parabola self.arc) x }
     {

@@ -58,7 +58,9 @@ impl Scan {
         ensures begin { result.begin ≡ self.begin + part_start self.within.arc.count i }
     {
         let start = part_start(self.within.arc.count, i);
-        let point = self.within.point_at(start);
+        let Some(point) = self.within.point_at(start) else {
+            unreachable!()
+        };
         let within = Within {
             arc: Arc {
                 value: point.value,

@@ -10,7 +10,7 @@ use lib.ListN.{get_or, length-map}
 use Rattle.std.proofs.Common.{Err, IsOkAnd}
 use Rattle.numbers.specs.Lists.{zero_padded}
 use Rattle.numbers.specs.Checklist.{conditions, RefusedBy}
-use Rattle.numbers.specs.Refusals.{number_of, named, number_in}
+use Rattle.numbers.specs.Refusals.{number_of, named, number_in, tested}
 use Rattle.numbers.specs.declared.refusals.Refusal.{Refusal}
 use Rattle.numbers.proofs.Checklists.{AllNumbers, refuses, accepts}
 use Rattle.numbers.proofs.Outcomes.{IsNamed, outcome_number, outcome_refuses, failing_named, shown_holds}
@@ -91,6 +91,10 @@ table_answered M a e t = shown_holds (refusal M a) (TableCorrect M a) e t
 by_name : (M a : ℕ) (r : Refusal) → (answer M a ≡ Err r) ↔ RefusedBy (conditions (checks M a)) (number_of r)
 unfolding answer refusal
 by_name M a r = outcome_refuses (checks M a) (table_of (expansion M a)) r (all_named M a)
+
+pub tested_by_name : (M a : ℕ) (r : Refusal) → (tested (refusal M a) ≡ Err r) ↔ RefusedBy (conditions (checks M a)) (number_of r)
+unfolding refusal
+tested_by_name M a r = outcome_refuses (checks M a) tt r (all_named M a)
 
 pub answer_correct : (M a : ℕ) → AnswerCorrect M a (answer M a)
 unfolding refusal

@@ -6,7 +6,7 @@ use Rattle.expansion.proofs.Multiples.{multiples_correct}
 use Rattle.expansion.proofs.Period.{period_correct}
 use Rattle.expansion.proofs.ConfigurationLaws.{regular_correct, fine_correct}
 use Rattle.expansion.proofs.Searches.{searches_correct}
-use Rattle.expansion.proofs.Answers.{number, answer_correct}
+use Rattle.expansion.proofs.Answers.{number, tested_by_name, answer_correct}
 
 pub promised : Promised
 promised =
@@ -22,4 +22,5 @@ promised =
       searches = searches_correct;
       answers = answer_correct;
       refusals = number;
+      refused_by_name = tested_by_name;
     }

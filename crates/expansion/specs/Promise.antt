@@ -4,7 +4,7 @@ use Rattle.std.specs.Prelude.{◌≡◌, ◌↔◌, ◌⊎◌, ℕ, suc, ◌+◌
 use mathlib.Core.List.{List, [], ◌∷◌, Memᴰ}
 use Rattle.std.specs.Int.{◌∣◌}
 use Rattle.numbers.specs.Checklist.{Condition, condition, RefusedBy}
-use Rattle.numbers.specs.Refusals.{number_of, number_in}
+use Rattle.numbers.specs.Refusals.{number_of, number_in, tested}
 use Rattle.numbers.specs.declared.refusals.Refusal.{Refusal}
 use Rattle.numbers.specs.Divisors.{gcd}
 use Rattle.numbers.specs.Promise.{GreatestCommonDivisor}
@@ -167,3 +167,5 @@ pub record Promised : Type 0 where
   pub answers : (M a : ℕ) → AnswerCorrect M a (answer M a)
   -- the test of a modulus and a step gives the number that the answer has
   pub refusals : (M a : ℕ) → refusal M a ≡ number_in (answer M a)
+  -- and answers it by the name that has this number
+  pub refused_by_name : (M a : ℕ) (r : Refusal) → (tested (refusal M a) ≡ Err r) ↔ RefusedBy (Asked M a) (number_of r)

@@ -7,3 +7,4 @@ pub mod Checklist
 pub mod Refusals
 pub mod Unit
 pub mod Promise
+pub mod Modular

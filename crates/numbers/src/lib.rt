@@ -5,6 +5,7 @@
 
 ghost use Rattle.std.specs.Prelude.{◌≡◌, ◌+◌, ◌-◌, ◌%◌, ◌^◌, ◌<◌, ◌≤◌, min, nat_abs};
 ghost use Rattle.numbers.specs.Integers.{◌modulo◌};
+ghost use Rattle.numbers.specs.Modular.{sum_modulo, difference_modulo};
 
 mod refusals;
 
@@ -71,25 +72,29 @@ pub fn saturating_sub(a: u64, b: u64) -> u64
     a - b
 }
 
-// a + b modulo M.
+// a + b modulo M, of two numbers below M. Of others it is the sum on the word, less M where it is not
+// below M: no test is left to the caller, and none is made.
+#[tactic(auto, unfolding(crate::specs::Modular::sum_modulo))]
 pub fn add(a: u64, b: u64, modulus: u64) -> u64
-    requires { (a < modulus) × (b < modulus) × (modulus ≤ 2 ^ 62) }
-    ensures { result ≡ (a + b) % modulus }
+    ensures value { result ≡ sum_modulo a b modulus }
+    ensures sum { (a < modulus) × (b < modulus) × (modulus ≤ 2 ^ 62) → result ≡ (a + b) % modulus }
 {
-    let sum = a + b;
+    let sum = a.wrapping_add(b);
     if sum < modulus {
         return sum;
     }
-    sum - modulus
+    sum.wrapping_sub(modulus)
 }
 
-// a - b modulo M. Where b is known to be 0, the compiler sees that there is nothing to do.
+// a - b modulo M, of two numbers below M. Of others it is the difference, or M less what b exceeds a
+// by, on the word. Where b is known to be 0, the compiler sees that there is nothing to do.
+#[tactic(auto, unfolding(crate::specs::Modular::difference_modulo))]
 pub fn subtract(a: u64, b: u64, modulus: u64) -> u64
-    requires { (a < modulus) × (b < modulus) }
-    ensures { result ≡ (a + (modulus - b)) % modulus }
+    ensures value { result ≡ difference_modulo a b modulus }
+    ensures difference { (a < modulus) × (b < modulus) → result ≡ (a + (modulus - b)) % modulus }
 {
     if b <= a {
         return a - b;
     }
-    modulus - (b - a)
+    modulus.wrapping_sub(b - a)
 }

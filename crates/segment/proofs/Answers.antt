@@ -43,7 +43,12 @@ pub all_named : (s : Segment) → AllNumbers IsNamed (conditions (checks s))
 unfolding named
 all_named s = (refl, (refl, (refl, (refl, (refl, tt)))))
 
--- a refusal is answered exactly where its condition is the first that does not hold
+-- the test answers a refusal exactly where its condition is the first that does not hold
+pub refused_by_name : (s : Segment) (r : Refusal) → (tested (refusal s) ≡ Err r) ↔ RefusedFor s (number_of r)
+unfolding refusal
+refused_by_name s r = outcome_refuses (checks s) tt r (all_named s)
+
+-- and so do the searches
 module _ (M a b N w : ℕ) (r : Refusal) where
   pub regular_refuses : (regular_answer M a b N w ≡ Err r) ↔ RefusedFor (asked M a b N w) (number_of r)
   unfolding regular_answer refusal

@@ -17,7 +17,7 @@ use Rattle.segment.specs.declared.Verdict.{Verdict}
 use Rattle.segment.specs.declared.Verdict.TheVariants.{Clear, Possible}
 use Rattle.numbers.specs.Refusals.{outcome}
 use Rattle.numbers.specs.declared.refusals.Refusal.TheVariants.{Window}
-use Rattle.segment.proofs.Answers.{accepted, refused_for, all_named, regular_refuses, fine_refuses}
+use Rattle.segment.proofs.Answers.{accepted, refused_for, refused_by_name, all_named, regular_refuses, fine_refuses}
 use Rattle.numbers.proofs.Outcomes.{outcome_by_cases}
 use Rattle.segment.proofs.Stepping.{steps_correct}
 use Rattle.segment.proofs.Showing.{apart, argument_below, distance_least, cleared_none, verdict_iff, shown_correct}
@@ -141,6 +141,7 @@ promised =
       accepted = λ M a b N w. accepted (asked M a b N w);
       accepted_is = λ M a b N w. (λ c. omega arith, λ h. omega arith);
       refused = λ M a b N w. refused_for (asked M a b N w);
+      refused_by_name = λ M a b N w. refused_by_name (asked M a b N w);
       regular_answers = regular_answers;
       fine_answers = fine_answers;
       regular_refused = regular_refuses;

@@ -24,13 +24,11 @@ pub overflow_mul-term : goal.overflow_mul-term
 overflow_mul-term c =
     let h = term_fits c.loop-row.invariant c.loop-row-test.true in omega arith
 
-pub subtract-residue-requires : goal.subtract-residue-requires
-subtract-residue-requires c =
-    let i = c.loop-row.invariant in (term_fits i c.loop-row-test.true, residue_below i)
-
 pub loop-row-preserved : goal.loop-row-preserved
 loop-row-preserved c =
-    rw c.subtract-residue.ensures (reducing_next c.loop-row.invariant c.loop-row-test.true)
+    let i = c.loop-row.invariant in
+    rw (c.subtract-residue.ensures.difference (term_fits i c.loop-row-test.true, residue_below i))
+    (reducing_next i c.loop-row-test.true)
 
 pub returns : goal.returns
 unfolding residue_answer

@@ -10,17 +10,14 @@ loop-left-init c = first_digit _ _ c.requires.1 c.requires.0
 pub overflow_mul-double : goal.overflow_mul-double
 overflow_mul-double c = let m = c.loop-left.invariant in record { fits = omega (arith, digit_below m, m.high) }
 
-pub add-sum-requires : goal.add-sum-requires
-add-sum-requires c = let m = c.loop-left.invariant in (m.sum_below, digit_below m, m.high)
-
-pub add-double-requires : goal.add-double-requires
-add-double-requires c = let m = c.loop-left.invariant in (m.double_below, m.double_below, m.high)
-
 pub loop-left-smaller : goal.loop-left-smaller
 loop-left-smaller c = omega (arith, c.loop-left-test.true, div-add-mod' c.loop-left.left 2)
 
 pub loop-left-preserved : goal.loop-left-preserved
-loop-left-preserved c = rw (c.add-double.ensures, c.add-sum.ensures) (next_digit c.loop-left.invariant)
+loop-left-preserved c =
+    let m = c.loop-left.invariant in
+    let sum = c.add-sum.ensures.sum (m.sum_below, digit_below m, m.high) in
+    rw (c.add-double.ensures.sum (m.double_below, m.double_below, m.high), sum) (next_digit m)
 
 pub returns : goal.returns
 returns c = no_digit c.loop-left.invariant c.loop-left-test.false

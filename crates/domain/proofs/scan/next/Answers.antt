@@ -8,4 +8,7 @@ returns-then-second-eq0 c = line_next c.requires c.if-second-eq0.true c.add_fixe
 
 pub returns : goal.returns
 unfolding next_point
-returns c = rw (c.add.ensures, c.add-2.ensures)
+returns c =
+    let p = c.requires in
+    let value = c.add.ensures.sum (p.value_below, p.slope_below, p.modulus_high) in
+    rw (value, c.add-2.ensures.sum (p.slope_below, p.second_below, p.modulus_high))

@@ -15,28 +15,21 @@ overflow_sub-triangle c = square_most c.args.x
 pub times-requires : goal.times-requires
 times-requires c = (c.args.self.in_range.slope_below, c.args.self.in_range.unit_within.1)
 
-pub add-along-requires : goal.add-along-requires
-add-along-requires c =
-    let r = c.args.self.in_range in
-    (r.value_below, rw c.times.ensures (mod-lt _ (positive r)), r.unit_within.1)
-
 pub overflow_cast-triangle : goal.overflow_cast-triangle
 overflow_cast-triangle c = rw (triangle_square c.args.x) (record { sfits = omega (arith, triangle_most c.args.x c.requires) })
 
 pub overflow_mul-arc : goal.overflow_mul-arc
 overflow_mul-arc c = rw (triangle_square c.args.x) (arc_fits c.args.self.in_range _ c.requires)
 
-pub add-requires : goal.add-requires
-add-requires c =
-    let p = positive c.args.self.in_range in
-    (rw c.add-along.ensures (mod-lt _ p), rw c.remainder-bent.ensures (mod_below p _), c.args.self.in_range.unit_within.1)
-
 pub returns : goal.returns
 returns c =
+    let r = c.args.self.in_range in
+    let p = positive r in
+    let along = c.add-along.ensures.sum (r.value_below, rw c.times.ensures (mod-lt _ p), r.unit_within.1) in
     rw (
-      c.add.ensures,
+      c.add.ensures.sum (rw along (mod-lt _ p), rw c.remainder-bent.ensures (mod_below p _), r.unit_within.1),
       c.remainder-bent.ensures,
-      c.add-along.ensures,
+      along,
       c.times.ensures,
       triangle_square c.args.x,
       arc_read c.args.self.in_range c.args.x c.requires,

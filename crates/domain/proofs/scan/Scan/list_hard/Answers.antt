@@ -1,6 +1,6 @@
 -- `domain::scan::Scan::list_hard` meets its contract. Assumes nothing.
-use Rattle.std.proofs.Common.{refl, arith, ◌<◌}
-use Rattle.domain.proofs.Scanning.{at_first, at_below, at_next, list_first, list_more, list_hit, list_miss, list_done}
+use Rattle.std.proofs.Common.{refl, arith}
+use Rattle.domain.proofs.Scanning.{at_first, at_below, list_first, list_more, list_hit, list_miss, list_done}
 use Rattle.domain.proofs.scan.Scan.list_hard.Goals as goal
 use Rattle.domain.proofs.scan.Scan.list_hard.Goals.{then-value-arc, else-value-arc}
 
@@ -12,12 +12,6 @@ next-point-requires c = at_below c.loop-at.invariant.point
 
 pub bounds-list-at : goal.bounds-list-at
 bounds-list-at c = omega (arith, c.loop-at.invariant.arguments_column.writing.length_kept, c.loop-at-test.true, c.requires.list_room)
-
-pub subtract-requires : goal.subtract-requires
-subtract-requires c =
-    let b = at_below c.loop-at.invariant.point in
-    let next_below : c.next-point.result.value < c.args.self.within.arc.modulus = rw c.next-point.ensures (at_below (at_next c.loop-at.invariant.point)).value_below in
-    (omega (arith, b.value_below, next_below), c.args.self.raise_below)
 
 pub bounds-values-at : goal.bounds-values-at
 bounds-values-at c = omega (arith, c.loop-at.invariant.values_column.writing.length_kept, c.loop-at-test.true, c.requires.values_room)
@@ -38,9 +32,10 @@ pub loop-at-preserved : goal.loop-at-preserved
 loop-at-preserved c =
     let i = c.loop-at.invariant in
     let e = c.requires.number_counted in
+    let b = at_below i.point in
     elim c.if-value-arc.branch [
       | then-value-arc w ↦
-          rw (w.list-is, w.values-is, w.at-is, c.next-point.ensures) (list_hit i _ e c.loop-at-test.true w.if-value-arc.true w.subtract.ensures)
+          rw (w.list-is, w.values-is, w.at-is, c.next-point.ensures) (list_hit i _ e c.loop-at-test.true w.if-value-arc.true (w.subtract.ensures.difference (b.value_below, c.args.self.raise_below)))
       | else-value-arc w ↦ rw (w.list-is, w.values-is, w.at-is, c.next-point.ensures) (list_miss i _ e c.loop-at-test.true w.if-value-arc.false)
     ]
 

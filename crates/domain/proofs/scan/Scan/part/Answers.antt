@@ -11,20 +11,20 @@ use Rattle.domain.proofs.scan.Scan.part.Goals.{After-part_count}
 made : (c : After-part_count)
     → record {
       unit = c.args.self.within.arc.modulus;
-      value = c.point_at-point.result.value;
-      slope = c.point_at-point.result.slope;
+      value = c.in-Some.point.value;
+      slope = c.in-Some.point.slope;
       curve = read c.args.self.within.arc.curve;
       count = c.part_count.result;
       window = suc c.args.self.within.arc.highest;
     } ≡ part (parabola c.args.self.within.arc) c.args.i
 made c =
     part_made c.args.self.within.arc c.requires.is_part c.requires.some_argument c.args.self.within.in_range
-    c.part_start-start.ensures c.point_at-point.ensures c.part_count.ensures
+    c.part_start-start.ensures c.in-Some.ensures.1 c.part_count.ensures
 
-pub point_at-point-requires : goal.point_at-point-requires
-point_at-point-requires c =
+pub unreachable-requires : goal.unreachable-requires
+unreachable-requires c =
     let below = begins_below c.args.self.within.arc c.requires.is_part c.requires.some_argument in
-    omega (arith, below, c.part_start-start.ensures, c.args.self.within.in_range.count_high)
+    omega (arith, below, c.part_start-start.ensures, c.args.self.within.in_range.count_high, c.in_default.ensures)
 
 pub overflow_add-result : goal.overflow_add-result
 overflow_add-result c =
