@@ -5,6 +5,7 @@ mod Steps
 mod Fields
 mod Numbers
 mod Lines
+mod Ends
 mod Digits
 pub mod Laws
 pub mod Promises

@@ -1,5 +1,8 @@
-// Fields with decimal numbers, read strictly from a text one after another. A field is a name, a
-// number and a line feed.
+// Fields with decimal numbers, read strictly from a text, one after another or at any place. A
+// field is a name, a number and a line feed.
+ghost use Rattle.std.specs.Prelude.{◌≡◌};
+ghost use Rattle.text.specs.Reading.{field_at, signed_field_at};
+
 use crate::reading::{number, signed_number};
 
 // What is left of a text that is read.
@@ -9,8 +12,7 @@ pub struct Reader<'a> {
 }
 
 impl<'a> Reader<'a> {
-    ghost use Rattle.std.specs.Prelude.{◌≡◌, ◌↔◌, length, IsTrue, MatchOption};
-    ghost use Rattle.text.specs.Reading.{field_at, signed_field_at};
+    ghost use Rattle.std.specs.Prelude.{◌↔◌, length, IsTrue, MatchOption};
     ghost use Rattle.text.specs.Reader.{Read, NotRead};
 
     // Reads from the first place on.
@@ -52,4 +54,23 @@ impl<'a> Reader<'a> {
         self.rest = rest;
         Some(n)
     }
+}
+
+// The field at a place of a text, and the place after its line feed. Any place may be asked for:
+// beyond the end of the text there is no field.
+pub fn field(text: &[u8], at: usize, name: &[u8]) -> Option<(u64, usize)>
+    ensures { result ≡ field_at name.now at text.now }
+{
+    let mut reader = Reader::new(&text[at.min(text.len())..]);
+    let n = reader.field(name)?;
+    Some((n, text.len() - reader.rest.len()))
+}
+
+// The same for a signed field.
+pub fn signed_field(text: &[u8], at: usize, name: &[u8]) -> Option<(i64, usize)>
+    ensures { result ≡ signed_field_at name.now at text.now }
+{
+    let mut reader = Reader::new(&text[at.min(text.len())..]);
+    let s = reader.signed_field(name)?;
+    Some((s, text.len() - reader.rest.len()))
 }
