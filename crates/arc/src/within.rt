@@ -1,5 +1,5 @@
 // Arcs within the bounds: what is asked of an arc holds of them, so that points and verdicts need
-// no test.
+// no test of it.
 ghost use Rattle.std.specs.Prelude.{◌≡◌, ◌≤◌, ◌<◌, MatchOption};
 ghost use Rattle.expansion.specs.Reached.Search.{regular, fine};
 ghost use Rattle.segment.specs.Search.{verdict};

@@ -72,8 +72,8 @@ pub fn saturating_sub(a: u64, b: u64) -> u64
     a - b
 }
 
-// a + b modulo M, of two numbers below M. Of others it is the sum on the word, less M where it is not
-// below M: no test is left to the caller, and none is made.
+// a + b modulo M, of two numbers below M, which is at most 2^62: then nothing wraps. Of others it is
+// the sum on the word, less M where it is not below M. No test is left to the caller.
 #[tactic(auto, unfolding(crate::specs::Modular::sum_modulo))]
 pub fn add(a: u64, b: u64, modulus: u64) -> u64
     ensures value { result ≡ sum_modulo a b modulus }
@@ -83,11 +83,12 @@ pub fn add(a: u64, b: u64, modulus: u64) -> u64
     if sum < modulus {
         return sum;
     }
-    sum.wrapping_sub(modulus)
+    sum - modulus
 }
 
-// a - b modulo M, of two numbers below M. Of others it is the difference, or M less what b exceeds a
-// by, on the word. Where b is known to be 0, the compiler sees that there is nothing to do.
+// a - b modulo M, of two numbers below M: then nothing wraps. Of others it is the difference, or M
+// less what b exceeds a by, on the word. Where b is known to be 0, the compiler sees that there is
+// nothing to do.
 #[tactic(auto, unfolding(crate::specs::Modular::difference_modulo))]
 pub fn subtract(a: u64, b: u64, modulus: u64) -> u64
     ensures value { result ≡ difference_modulo a b modulus }

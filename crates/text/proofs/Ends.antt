@@ -1,24 +1,13 @@
--- A reader over what is left of a text from a place on stands at that place, also beyond the end;
--- and since a field ends within its text, what is left behind it tells where it ends.
--- Assumes nothing.
-use mathlib.Core.Path.{◌≡◌, sym, ap, ◌∙◌}
+-- A field ends within its text, and so what is left behind it tells where it ends. Assumes nothing.
+use mathlib.Core.Path.{◌≡◌, sym, ap}
 use mathlib.Core.List.{List}
-use Prim.Native.Nat.{ℕ, ◌-◌, ◌≤◌, min}
+use Prim.Native.Nat.{ℕ, ◌-◌, ◌≤◌}
 use native.Mathlib.Omega.{arith}
 use lib.IntN.{ℤ}
-use lib.ListN.{length, take, drop, length-drop}
-use lib.Seq.{take_all}
+use lib.ListN.{length, drop, length-drop}
 use Rattle.std.proofs.Common.{Option, Some}
-use Rattle.std.proofs.lemmas.List.{drop_min}
 use Rattle.text.specs.Reading.{field_at, signed_field_at}
 use Rattle.text.proofs.Lines.{field_correct}
-
--- what is left from a place on; nothing is, where the place is beyond the end
-pub left_from : (at : ℕ) (t : List ℕ) {start : ℕ} {left : List ℕ} → start ≡ min at (length t)
-    → left ≡ take (length t - start) (drop start t) → left ≡ drop at t
-left_from at t {start} s l =
-    l ∙ take_all (length t - start) (drop start t) (omega (arith, length-drop start t))
-    ∙ rw s (drop_min at t)
 
 -- what is left behind a value that ends within a text tells where it ends
 end_told : {A : Type 0} (f : Option (A × ℕ)) {a : A} {t rest : List ℕ} {place : ℕ}

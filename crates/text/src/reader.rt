@@ -1,6 +1,6 @@
 // Fields with decimal numbers, read strictly from a text, one after another or at any place. A
 // field is a name, a number and a line feed.
-ghost use Rattle.std.specs.Prelude.{◌≡◌};
+ghost use Rattle.std.specs.Prelude.{◌≡◌, drop};
 ghost use Rattle.text.specs.Reading.{field_at, signed_field_at};
 
 use crate::reading::{number, signed_number};
@@ -56,12 +56,19 @@ impl<'a> Reader<'a> {
     }
 }
 
+// What is left of a text from a place on; nothing is, where the place is beyond the end.
+fn left_from(text: &[u8], at: usize) -> &[u8]
+    ensures { result.now ≡ drop at text.now }
+{
+    &text[at.min(text.len())..]
+}
+
 // The field at a place of a text, and the place after its line feed. Any place may be asked for:
 // beyond the end of the text there is no field.
 pub fn field(text: &[u8], at: usize, name: &[u8]) -> Option<(u64, usize)>
     ensures { result ≡ field_at name.now at text.now }
 {
-    let mut reader = Reader::new(&text[at.min(text.len())..]);
+    let mut reader = Reader::new(left_from(text, at));
     let n = reader.field(name)?;
     Some((n, text.len() - reader.rest.len()))
 }
@@ -70,7 +77,7 @@ pub fn field(text: &[u8], at: usize, name: &[u8]) -> Option<(u64, usize)>
 pub fn signed_field(text: &[u8], at: usize, name: &[u8]) -> Option<(i64, usize)>
     ensures { result ≡ signed_field_at name.now at text.now }
 {
-    let mut reader = Reader::new(&text[at.min(text.len())..]);
+    let mut reader = Reader::new(left_from(text, at));
     let s = reader.signed_field(name)?;
     Some((s, text.len() - reader.rest.len()))
 }
