@@ -17,17 +17,18 @@ use Rattle.ostrowski.specs.Promise.{ArgumentAsked, TargetAsked, NumeralCorrect, 
 use Rattle.ostrowski.proofs.Writing.{digits_many}
 use Rattle.ostrowski.proofs.Residues.{digits_residue}
 use Rattle.ostrowski.proofs.Targets.{argument_only, target_correct, argument_correct}
-use Rattle.ostrowski.proofs.Refusals.{outcome_shows, argument_named, target_named}
+use Rattle.ostrowski.proofs.Refusals.{outcome_shows, argument_named, target_named, digits_or_refusal}
 
 -- ---- digits
 
 module _ (M a x : ℕ) where
   -- the answer has the number of the first condition that does not hold
   number : argument_refusal M a x ≡ number_in (digits_answer M a x)
-  unfolding argument_refusal digits_answer
+  unfolding argument_refusal
   number =
       let numeral = with_digits (digits_of M a x) (last M a) in
       sym (failing_number (argument_checks M a x) numeral (argument_named M a x))
+      ∙ sym (ap number_in (digits_or_refusal M a x))
 
   refused : (n : ℕ) → (argument_refusal M a x ≡ suc n) ↔ RefusedBy (ArgumentAsked M a x) (suc n)
   unfolding argument_refusal
@@ -53,15 +54,17 @@ module _ (M a x : ℕ) where
       }
 
   shown : argument_refusal M a x ≡ 0 → IsOkAnd (digits_answer M a x) (NumeralCorrect M a x)
-  unfolding digits_answer
   shown e =
       let h = accepted.0 e in
-      shown_holds (argument_refusal M a x) (NumeralCorrect M a x) e (numeral_correct h.2 h.1)
+      rw (digits_or_refusal M a x)
+      (shown_holds (argument_refusal M a x) (NumeralCorrect M a x) e (numeral_correct h.2 h.1))
 
   by_name : (r : Refusal)
       → (digits_answer M a x ≡ Err r) ↔ RefusedBy (ArgumentAsked M a x) (number_of r)
-  unfolding digits_answer argument_refusal
-  by_name r = outcome_refuses (argument_checks M a x) _ r (argument_named M a x)
+  unfolding argument_refusal
+  by_name r =
+      rw (digits_or_refusal M a x)
+      (outcome_refuses (argument_checks M a x) _ r (argument_named M a x))
 
   pub digits_answer_correct : DigitsAnswerCorrect M a x (digits_answer M a x)
   digits_answer_correct =

@@ -1,13 +1,15 @@
 -- When each refusal is given: 1 and 2 as in the expansion, then 9 or 10. Assumes nothing.
-use Rattle.std.proofs.Common.{◌≡◌, ℕ, ◌^◌, ◌≤◌, ◌<◌, List, [], ◌∷◌, Ok, Err, ◌↔◌, inl, inr, refl, sym, ap, ◌∙◌}
-use Rattle.numbers.specs.Checklist.{Check, check, condition, conditions, first_failing, AllHold, RefusedBy}
+use Rattle.std.proofs.Common.{◌≡◌, ℕ, zero, suc, ◌^◌, ◌≤◌, ◌<◌, List, [], ◌∷◌, Ok, Err, ◌↔◌, inl, inr, refl, sym, ap, ◌∙◌}
+use Rattle.numbers.specs.Checklist.{Check, check, condition, conditions, first_failing, AllHold, RefusedBy, unless_refused}
 use Rattle.numbers.specs.Refusals.{named, outcome}
 use Rattle.numbers.specs.declared.refusals.Refusal.{Refusal}
 use Rattle.numbers.proofs.Checklists.{AllNumbers, accepts}
 use Rattle.numbers.proofs.Outcomes.{IsNamed, outcome_shown, shown_accepted, refused_alike, refused_first, all_numbered}
+use Rattle.expansion.specs.Rows.{last}
 use Rattle.expansion.specs.Answer.{checks, refusal}
 use Rattle.expansion.proofs.Promises as expansion
-use Rattle.ostrowski.specs.Answer.{argument_checks, target_checks, argument_refusal, target_refusal}
+use Rattle.ostrowski.specs.Digits.{digits_of}
+use Rattle.ostrowski.specs.Answer.{argument_checks, target_checks, argument_refusal, target_refusal, with_digits, digits_answer}
 
 -- an answer by a checklist is there exactly where every condition holds
 pub outcome_shows : {A : Type 0} (cs : List Check) (a x : A) → AllNumbers IsNamed (conditions cs)
@@ -30,6 +32,18 @@ argument_named M a x = (refl, (refl, (refl, tt)))
 pub target_named : (M a t : ℕ) → AllNumbers IsNamed (conditions (target_checks M a t))
 unfolding named
 target_named M a t = (refl, (refl, (refl, tt)))
+
+-- a refused argument is answered by its refusal alone, and any other by its digits
+pub digits_or_refusal : (M a x : ℕ)
+    → digits_answer M a x
+    ≡ outcome (argument_refusal M a x) (with_digits (digits_of M a x) (last M a))
+unfolding digits_answer outcome unless_refused
+digits_or_refusal M a x = by (argument_refusal M a x) refl
+  where
+    by : (n : ℕ) → argument_refusal M a x ≡ n
+        → digits_answer M a x ≡ outcome n (with_digits (digits_of M a x) (last M a))
+    by zero e = rw e refl
+    by (suc n) e = rw e refl
 
 -- the modulus or the step is refused, whatever else is asked
 module _ {A B : Type 0} (M a : ℕ) (t : A) (b : B) {e : Refusal}

@@ -23,11 +23,14 @@ pub at_start : {lo hi : ℕ} {xs : List ℕ} → EmptyAtStart lo hi xs
     → record { start = 0; end = 0 } ≡ place_of lo hi xs
 at_start e = rw (e.start, e.count)
 
-pub between : {lo hi : ℕ} {xs : List ℕ} → Between lo hi xs
-    → record { start = below lo xs; end = below hi xs } ≡ place_of lo hi xs
-between {lo} {hi} {xs} b =
-    let e : below lo xs + (below hi xs - below lo xs) ≡ below hi xs = omega (arith, b.forward) in
-    rw (b.start, b.count, e)
+-- however a call writes the two places
+pub between : {lo hi : ℕ} {xs : List ℕ} {start end : ℕ} → Between lo hi xs → start ≡ below lo xs
+    → end ≡ below hi xs
+    → record { start = start; end = end } ≡ place_of lo hi xs
+between {lo} {hi} {xs} b s e =
+    let joined : below lo xs + (below hi xs - below lo xs) ≡ below hi xs =
+    omega (arith, b.forward) in
+    rw (b.start, b.count, joined, s, e)
 
 module _ (lo hi : ℕ) (xs : List ℕ) where
   pub ordered : ascending xs ≡ true → lo ≤ hi → Between lo hi xs

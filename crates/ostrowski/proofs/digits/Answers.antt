@@ -1,20 +1,19 @@
 -- `ostrowski::digits` meets its contract: a refusal, or the digits of an argument below the period.
 -- Assumes nothing.
-use Rattle.std.proofs.Common.{Ok, refl, ap, ◌∙◌, rules, arith}
+use Rattle.std.proofs.Common.{Ok, refl, sym, ap, ◌∙◌, rules, arith}
 use Rattle.expansion.specs.Answer.{answer}
-use Rattle.ostrowski.specs.Answer.{digits_answer}
-use Rattle.ostrowski.proofs.Refusals.{argument_first}
+use Rattle.ostrowski.proofs.Refusals.{argument_first, digits_or_refusal}
 use Rattle.ostrowski.proofs.Taking.{tabled, argument_refused, argument_accepted, taking_first, taking_next, none_written, digit_written, digits_written}
 use Rattle.ostrowski.proofs.digits.Goals as goal
 
 pub returns-in_err-denominators : goal.returns-in_err-denominators
-unfolding answer digits_answer
-returns-in_err-denominators c = search (rules, argument_first)
+unfolding answer
+returns-in_err-denominators c = rw (digits_or_refusal _ _ _) (search (rules, argument_first))
 
 pub returns-then-denominators-last : goal.returns-then-denominators-last
-unfolding digits_answer
 returns-then-denominators-last c =
     argument_refused (tabled c.in_ok-denominators.ensures) _ c.if-denominators-last.true
+    ∙ sym (digits_or_refusal _ _ _)
 
 pub loop-row-init : goal.loop-row-init
 loop-row-init c =
@@ -30,7 +29,7 @@ loop-row-preserved c =
     }
 
 pub returns : goal.returns
-unfolding digits_answer
 returns c =
     let i = c.loop-row.invariant in
     ap Ok (digits_written i.taking (omega arith) i.written) ∙ argument_accepted i.taking _
+    ∙ sym (digits_or_refusal _ _ _)

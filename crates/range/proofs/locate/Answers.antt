@@ -14,6 +14,8 @@ returns-then-hi-lo c =
 
 pub returns : goal.returns
 returns c =
+    let a = c.args in
     let up = sym c.is_ascending.ensures ∙ c.if-not-is_ascending.false in
-    rw (c.count_below-start.ensures, c.count_below-end.ensures)
-    (between (ordered _ _ _ up c.if-hi-lo.false))
+    let b = ordered a.lo a.hi a.list.now up (omega (arith, c.if-hi-lo.false)) in
+    let starts = c.count_below-start.ensures in
+    between b (omega (arith, starts)) (omega (arith, b.forward, starts, c.count_below-end.ensures))

@@ -35,7 +35,9 @@ loop-at-preserved c =
     let b = at_below i.point in
     elim c.if-value-arc.branch [
       | then-value-arc w ↦
-          rw (w.list-is, w.values-is, w.at-is, c.next-point.ensures) (list_hit i _ e c.loop-at-test.true w.if-value-arc.true (w.subtract.ensures.difference (b.value_below, c.args.self.raise_below)))
+          rw (w.list-is, w.values-is, w.at-is, c.next-point.ensures)
+          (list_hit i _ e c.loop-at-test.true w.if-value-arc.true
+          (omega (arith, w.subtract.ensures.difference (b.value_below, c.args.self.raise_below))))
       | else-value-arc w ↦ rw (w.list-is, w.values-is, w.at-is, c.next-point.ensures) (list_miss i _ e c.loop-at-test.true w.if-value-arc.false)
     ]
 
