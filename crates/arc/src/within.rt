@@ -42,8 +42,8 @@ impl Arc {
 }
 
 impl Within {
-    // None where x is beyond every count, above 2^20. An arc has the other points, those beyond its last
-    // argument too.
+    // None where x is beyond every count, above 2^20. An arc has the other points, those beyond its
+    // last argument too.
     pub fn point_at(self, x: u64) -> Option<Point>
         ensures { MatchOption result (1048576 < x)
             (λ p. (x ≤ 1048576) × (p ≡ point (parabola self.arc) x)) }

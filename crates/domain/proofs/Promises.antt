@@ -215,24 +215,37 @@ module _ (d : Domain) (old_marks : List Mark) (old old_values : List ℕ) where
 -- ---- the marks by their numbers
 
 module _ (d : Domain) (m n : ℕ) (old : List ℕ) where
-  mark_numbers_correct : MarkNumbersCorrect d old (domain_answer d m n) (mark_numbers_after d m n old)
+  -- the number of the answer, and the numbers of the marks that it finds
+  abbrev number : ℕ
+  number = domain_number d m n
+
+  abbrev numbers : List ℕ
+  numbers = mark_numbers (marks_of d)
+
+  mark_numbers_correct : MarkNumbersCorrect d old (domain_answer d m n)
+      (mark_numbers_after d m n old)
   unfolding domain_answer mark_numbers_after
   mark_numbers_correct =
       record {
-        unchanged = λ r e. refused_old (domain_number d m n) _ old (refused_number (domain_number d m n) (found (centred_of d)) e);
-        marked = λ s e. let r = (shows (domain_number d m n) (found (centred_of d))).0 e in
-            rw (unrefused_new (mark_numbers (marks_of d)) old r.0, r.1)
-            (marks_correct d ((number_accepts d m n).0 r.0).0.searchable (verdict regular (covering_of d)));
-        written = λ s e. unrefused_new (mark_numbers (marks_of d)) old ((shows (domain_number d m n) (found (centred_of d))).0 e).0;
+        unchanged = λ r e.
+            refused_old number _ old (refused_number number (found (centred_of d)) e);
+        marked = λ s e. let r = (shows number (found (centred_of d))).0 e in
+            let accepted = ((number_accepts d m n).0 r.0).0.searchable in
+            rw (unrefused_new numbers old r.0, r.1)
+            (marks_correct d accepted (verdict regular (covering_of d)));
+        written = λ s e.
+            unrefused_new numbers old ((shows number (found (centred_of d))).0 e).0;
       }
 
 -- what is done to the new and the old is done to what is left
-unless_refused_of : {A B : Type 0} (f : A → B) (k : ℕ) (new old : A) → f (unless_refused k new old) ≡ unless_refused k (f new) (f old)
+unless_refused_of : {A B : Type 0} (f : A → B) (k : ℕ) (new old : A)
+    → f (unless_refused k new old) ≡ unless_refused k (f new) (f old)
 unfolding unless_refused
 unless_refused_of f zero new old = refl
 unless_refused_of f (suc k) new old = refl
 
-by_number : (d : Domain) (old : List Mark) (m n : ℕ) → mark_numbers (marks_after d m n old) ≡ mark_numbers_after d m n (mark_numbers old)
+by_number : (d : Domain) (old : List Mark) (m n : ℕ)
+    → mark_numbers (marks_after d m n old) ≡ mark_numbers_after d m n (mark_numbers old)
 unfolding marks_after mark_numbers_after
 by_number d old m n = unless_refused_of mark_numbers (domain_number d m n) (marks_of d) old
 

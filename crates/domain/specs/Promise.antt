@@ -203,9 +203,10 @@ pub record DomainCorrect (d : Domain) (old_marks : List Mark) (old old_values : 
   pub after : (s : Searched) → answer ≡ Ok s → (i : ℕ) → s.listed ≤ i
       → (get_or new i 0 ≡ get_or old i 0) × (get_or new_values i 0 ≡ get_or old_values i 0)
 
--- what a domain leaves in eight numbers `old` that it is lent for the marks, whatever they are: `new`. A refusal leaves them as they were; otherwise they are the
--- numbers of the marks
-pub record MarkNumbersCorrect (d : Domain) (old : List ℕ) (answer : Result Searched Refusal) (new : List ℕ) : Type 0 where
+-- what a domain leaves in eight numbers `old` that it is lent for the marks, whatever they are:
+-- `new`. A refusal leaves them as they were; otherwise they are the numbers of the marks
+pub record MarkNumbersCorrect (d : Domain) (old : List ℕ) (answer : Result Searched Refusal)
+    (new : List ℕ) : Type 0 where
   pub unchanged : (r : Refusal) → answer ≡ Err r → new ≡ old
   pub marked : (s : Searched) → answer ≡ Ok s → MarksCorrect d s.first new
   pub written : (s : Searched) → answer ≡ Ok s → new ≡ mark_numbers (marks_of d)
@@ -219,7 +220,8 @@ pub record OriginCorrect (d : Domain) (o : ℕ) (old_marks : List Mark) (old old
   pub same_answer : domain_answer (with_origin o d) (length old) (length old_values) ≡ domain_answer d (length old) (length old_values)
   pub same_marks : marks_after (with_origin o d) (length old) (length old_values) old_marks ≡ marks_after d (length old) (length old_values) old_marks
   pub same_mark_numbers : (numbers : List ℕ)
-      → mark_numbers_after (with_origin o d) (length old) (length old_values) numbers ≡ mark_numbers_after d (length old) (length old_values) numbers
+      → mark_numbers_after (with_origin o d) (length old) (length old_values) numbers
+      ≡ mark_numbers_after d (length old) (length old_values) numbers
   pub same_values : values_after (with_origin o d) (length old) old_values ≡ values_after d (length old) old_values
   pub moved : (s : Searched) → domain_answer d (length old) (length old_values) ≡ Ok s → (i : ℕ) → i < s.listed
       → get_or (list_after (with_origin o d) (length old_values) old) i 0 + d.origin ≡ get_or (list_after d (length old_values) old) i 0 + o
@@ -278,11 +280,14 @@ pub record Promised : Type 0 where
   pub domains : (d : Domain) (old_marks : List Mark) (old old_values : List ℕ)
       → DomainCorrect d old_marks old old_values (domain_answer d (length old) (length old_values))
       (marks_after d (length old) (length old_values) old_marks) (list_after d (length old_values) old) (values_after d (length old) old_values)
-  -- the call that is lent numbers for the marks has the same answer, list and values, and leaves the numbers of the marks that the call by names leaves
+  -- the call that is lent numbers for the marks has the same answer, list and values, and leaves the
+  -- numbers of the marks that the call by names leaves
   pub mark_numbers_left : (d : Domain) (old : List ℕ) (list_places value_places : ℕ)
-      → MarkNumbersCorrect d old (domain_answer d list_places value_places) (mark_numbers_after d list_places value_places old)
+      → MarkNumbersCorrect d old (domain_answer d list_places value_places)
+      (mark_numbers_after d list_places value_places old)
   pub by_number : (d : Domain) (old : List Mark) (list_places value_places : ℕ)
-      → mark_numbers (marks_after d list_places value_places old) ≡ mark_numbers_after d list_places value_places (mark_numbers old)
+      → mark_numbers (marks_after d list_places value_places old)
+      ≡ mark_numbers_after d list_places value_places (mark_numbers old)
   -- nothing but the listed arguments depends on the origin
   pub origins : (d : Domain) (o : ℕ) (old_marks : List Mark) (old old_values : List ℕ) → d.origin ≤ 2 ^ 52 → o ≤ 2 ^ 52 → OriginCorrect d o old_marks old old_values
   pub scans : (M a b N w : ℕ) (old old_values : List ℕ)

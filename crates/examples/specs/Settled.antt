@@ -145,7 +145,8 @@ MarksThen d m n numbers =
 -- and marks that stay as they were, by name and by number
 abbrev pub MarksStay : Domain → (list_places value_places : ℕ) → Type 0
 MarksStay d m n =
-    ((old : List Mark) → marks_after d m n old ≡ old) × ((old : List ℕ) → mark_numbers_after d m n old ≡ old)
+    ((old : List Mark) → marks_after d m n old ≡ old)
+    × ((old : List ℕ) → mark_numbers_after d m n old ≡ old)
 
 -- job J, bytes in and bytes out, by 02's requests 2.1 and 2.6, and the segment that covers it
 pub record Example10 : Type 0 where

@@ -92,7 +92,8 @@ by_name : (M a : ℕ) (r : Refusal) → (answer M a ≡ Err r) ↔ RefusedBy (co
 unfolding answer refusal
 by_name M a r = outcome_refuses (checks M a) (table_of (expansion M a)) r (all_named M a)
 
-pub tested_by_name : (M a : ℕ) (r : Refusal) → (tested (refusal M a) ≡ Err r) ↔ RefusedBy (conditions (checks M a)) (number_of r)
+pub tested_by_name : (M a : ℕ) (r : Refusal)
+    → (tested (refusal M a) ≡ Err r) ↔ RefusedBy (conditions (checks M a)) (number_of r)
 unfolding refusal
 tested_by_name M a r = outcome_refuses (checks M a) tt r (all_named M a)
 

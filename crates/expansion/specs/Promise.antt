@@ -168,4 +168,5 @@ pub record Promised : Type 0 where
   -- the test of a modulus and a step gives the number that the answer has
   pub refusals : (M a : ℕ) → refusal M a ≡ number_in (answer M a)
   -- and answers it by the name that has this number
-  pub refused_by_name : (M a : ℕ) (r : Refusal) → (tested (refusal M a) ≡ Err r) ↔ RefusedBy (Asked M a) (number_of r)
+  pub refused_by_name : (M a : ℕ) (r : Refusal)
+      → (tested (refusal M a) ≡ Err r) ↔ RefusedBy (Asked M a) (number_of r)

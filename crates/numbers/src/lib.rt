@@ -72,8 +72,8 @@ pub fn saturating_sub(a: u64, b: u64) -> u64
     a - b
 }
 
-// a + b modulo M, of two numbers below M, which is at most 2^62: then nothing wraps. Of others it is
-// the sum on the word, less M where it is not below M. No test is left to the caller.
+// a + b modulo M, of two numbers below M, which is at most 2^62: then nothing wraps. Of others it
+// is the sum on the word, less M where it is not below M. No test is left to the caller.
 #[tactic(auto, unfolding(crate::specs::Modular::sum_modulo))]
 pub fn add(a: u64, b: u64, modulus: u64) -> u64
     ensures value { result ≡ sum_modulo a b modulus }

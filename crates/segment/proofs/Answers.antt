@@ -44,7 +44,8 @@ unfolding named
 all_named s = (refl, (refl, (refl, (refl, (refl, tt)))))
 
 -- the test answers a refusal exactly where its condition is the first that does not hold
-pub refused_by_name : (s : Segment) (r : Refusal) → (tested (refusal s) ≡ Err r) ↔ RefusedFor s (number_of r)
+pub refused_by_name : (s : Segment) (r : Refusal)
+    → (tested (refusal s) ≡ Err r) ↔ RefusedFor s (number_of r)
 unfolding refusal
 refused_by_name s r = outcome_refuses (checks s) tt r (all_named s)
 

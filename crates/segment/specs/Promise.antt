@@ -155,7 +155,8 @@ pub record Promised : Type 0 where
       ↔ ((2 ≤ M) × (M ≤ 2 ^ 62) × (a < M) × (b < M) × (1 ≤ N) × (N ≤ 1048576) × (1 ≤ w) × (w ≤ M))
   pub refused : (M a b N w n : ℕ) → for_segment (λ s. (refusal s ≡ suc n) ↔ RefusedFor s (suc n)) M a b N w
   -- and the test answers it by the name that has this number
-  pub refused_by_name : (M a b N w : ℕ) (r : Refusal) → for_segment (λ s. (tested (refusal s) ≡ Err r) ↔ RefusedFor s (number_of r)) M a b N w
+  pub refused_by_name : (M a b N w : ℕ) (r : Refusal)
+      → for_segment (λ s. (tested (refusal s) ≡ Err r) ↔ RefusedFor s (number_of r)) M a b N w
   pub regular_answers : (M a b N w : ℕ) → for_segment (λ s. RegularAnswerCorrect s (regular_answer M a b N w)) M a b N w
   pub fine_answers : (M a b N w : ℕ) → for_segment (λ s. FineAnswerCorrect s (fine_answer M a b N w)) M a b N w
   pub regular_refused : (M a b N w : ℕ) (r : Refusal) → for_segment (λ s. (regular_answer M a b N w ≡ Err r) ↔ RefusedFor s (number_of r)) M a b N w

@@ -10,4 +10,6 @@ pub returns-then-arc-x : goal.returns-then-arc-x
 returns-then-arc-x c = none_outside _ _ (λ range h. omega (arith, c.if-arc-x.true, h))
 
 pub returns : goal.returns
-returns c = point_within c.in_ok-within.within c.in_ok-within.ensures _ (omega (arith, c.if-arc-x.false)) c.point.ensures
+returns c =
+    let within = c.in_ok-within in
+    point_within within.within within.ensures _ (omega (arith, c.if-arc-x.false)) c.point.ensures

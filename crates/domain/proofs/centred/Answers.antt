@@ -12,5 +12,7 @@ returns-clause-made c =
     let a = c.requires.searchable in
     let fits : SFits w64 c.args.domain.curve = search rules in
     let w : suc c.min.result ≡ min c.args.domain.modulus (2 * c.args.domain.window - 1) = omega (arith, c.min.ensures, a.window_low, a.window_high) in
-    let value = c.add.ensures.sum (a.value_below, omega (arith, a.window_low, a.window_high), a.unit_within.1) in
+    let value =
+    c.add.ensures.sum
+    (a.value_below, omega (arith, a.window_low, a.window_high), a.unit_within.1) in
     rw (to_z-of_z fits, value, w)

@@ -13,12 +13,16 @@ made {M} {a} {w = w} accepted e =
     let window : suc (w - 1) ≡ w = omega (arith, accepted.window_low) in rw (e, zero-add (M - a), window)
 
 -- the step is below M, and so is 0
-slope : {M a b N w : ℕ} → Accepted (asked M a b N w) → {s : ℕ} → ((0 < M) × (a < M) → s ≡ (0 + (M - a)) % M) → s ≡ (0 + (M - a)) % M
+slope : {M a b N w : ℕ} → Accepted (asked M a b N w) → {s : ℕ}
+    → ((0 < M) × (a < M) → s ≡ (0 + (M - a)) % M) → s ≡ (0 + (M - a)) % M
 slope accepted e = e (omega (arith, accepted.step_below), accepted.step_below)
 
 pub invariant_of-within : goal.invariant_of-within
 invariant_of-within c =
-    record { in_range = rw (made c.requires (slope c.requires c.subtract.ensures.difference)) (line_in_range c.requires) }
+    record {
+      in_range = rw (made c.requires (slope c.requires c.subtract.ensures.difference))
+          (line_in_range c.requires);
+    }
 
 pub returns-clause-made : goal.returns-clause-made
 returns-clause-made c = made c.requires (slope c.requires c.subtract.ensures.difference)

@@ -5,5 +5,6 @@ use Rattle.text.proofs.reader.field.Goals as goal
 
 pub returns : goal.returns
 returns c =
-    let read = c.in_ok-n.ensures c.args.at c.args.text.now (c.new-reader.ensures ∙ c.left_from.ensures) in
+    let here = c.new-reader.ensures ∙ c.left_from.ensures in
+    let read = c.in_ok-n.ensures c.args.at c.args.text.now here in
     field_told c.args.name.now c.args.at c.args.text.now (omega arith) read

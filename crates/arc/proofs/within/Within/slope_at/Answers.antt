@@ -7,5 +7,7 @@ use Rattle.arc.proofs.within.Within.slope_at.Goals as goal
 pub returns : goal.returns
 returns c =
     let r = c.args.self.in_range in
-    let risen = c.add.ensures.sum (r.slope_below, rw c.remainder-bent.ensures (mod_below (positive r) _), r.unit_within.1) in
+    let risen =
+    c.add.ensures.sum
+    (r.slope_below, rw c.remainder-bent.ensures (mod_below (positive r) _), r.unit_within.1) in
     rw (risen, c.remainder-bent.ensures, rise_read r _ c.requires) (slope_of_terms r _)

@@ -25,9 +25,12 @@ pub returns : goal.returns
 returns c =
     let r = c.args.self.in_range in
     let p = positive r in
-    let along = c.add-along.ensures.sum (r.value_below, rw c.times.ensures (mod-lt _ p), r.unit_within.1) in
+    let along =
+    c.add-along.ensures.sum
+    (r.value_below, rw c.times.ensures (mod-lt _ p), r.unit_within.1) in
     rw (
-      c.add.ensures.sum (rw along (mod-lt _ p), rw c.remainder-bent.ensures (mod_below p _), r.unit_within.1),
+      c.add.ensures.sum
+          (rw along (mod-lt _ p), rw c.remainder-bent.ensures (mod_below p _), r.unit_within.1),
       c.remainder-bent.ensures,
       along,
       c.times.ensures,

@@ -24,7 +24,8 @@ made c =
 pub unreachable-requires : goal.unreachable-requires
 unreachable-requires c =
     let below = begins_below c.args.self.within.arc c.requires.is_part c.requires.some_argument in
-    omega (arith, below, c.part_start-start.ensures, c.args.self.within.in_range.count_high, c.in_default.ensures)
+    let high = c.args.self.within.in_range.count_high in
+    omega (arith, below, c.part_start-start.ensures, high, c.in_default.ensures)
 
 pub overflow_add-result : goal.overflow_add-result
 overflow_add-result c =
