@@ -4,7 +4,7 @@ ghost use Rattle.parabola.specs.Parabola.{value_at, slope_at};
 ghost use Rattle.arc.specs.Arc.{parabola};
 
 use crate::Within;
-use numbers::{add, remainder};
+use numbers::{Residues, remainder};
 
 // The bound on x stays a `requires` of each: a type for a number up to 2^20 would be no plainer.
 impl Within {
@@ -15,9 +15,17 @@ impl Within {
     {
         let arc = self.arc;
         let triangle = (x * x - x) / 2;
-        let along = add(arc.value, times(arc.slope, x, arc.modulus), arc.modulus);
-        let bent = remainder(arc.curve * triangle as i64, arc.modulus);
-        add(along, bent, arc.modulus)
+        let along = Residues {
+            first: arc.value,
+            second: times(arc.slope, x, arc.modulus),
+            modulus: arc.modulus,
+        };
+        let value = Residues {
+            first: along.sum(),
+            second: remainder(arc.curve * triangle as i64, arc.modulus),
+            modulus: arc.modulus,
+        };
+        value.sum()
     }
 
     // V(x + 1) - V(x)
@@ -26,8 +34,12 @@ impl Within {
         ensures { result ≡ slope_at (parabola self.arc) x }
     {
         let arc = self.arc;
-        let bent = remainder(arc.curve * x as i64, arc.modulus);
-        add(arc.slope, bent, arc.modulus)
+        let slope = Residues {
+            first: arc.slope,
+            second: remainder(arc.curve * x as i64, arc.modulus),
+            modulus: arc.modulus,
+        };
+        slope.sum()
     }
 }
 
@@ -41,8 +53,18 @@ fn times(a: u64, number: u64, modulus: u64) -> u64
     let mut double = a;
     let mut left = number;
     while 0 < left {
-        sum = add(sum, double * (left % 2), modulus);
-        double = add(double, double, modulus);
+        let more = Residues {
+            first: sum,
+            second: double * (left % 2),
+            modulus,
+        };
+        sum = more.sum();
+        let twice = Residues {
+            first: double,
+            second: double,
+            modulus,
+        };
+        double = twice.sum();
         left = left / 2;
     }
     sum

@@ -22,7 +22,7 @@ mod scan;
 
 use arc::{Arc, Within};
 pub use marks::Mark;
-use numbers::{Refusal, add, min, subtract};
+use numbers::{Refusal, Residues, min};
 use scan::{Scan, list_all};
 use segment::{Segment, Verdict};
 
@@ -87,11 +87,16 @@ fn line(segment: Segment) -> Scan
     ensures raise { result.raise ≡ 0 }
     ensures begin { result.begin ≡ 0 }
 {
+    let opposite = Residues {
+        first: 0,
+        second: segment.step,
+        modulus: segment.modulus,
+    };
     let within = Within {
         arc: Arc {
             modulus: segment.modulus,
             value: segment.start,
-            slope: subtract(0, segment.step, segment.modulus),
+            slope: opposite.difference(),
             curve: 0,
             count: segment.count,
             highest: segment.window - 1,
@@ -194,10 +199,15 @@ fn centred(domain: Domain) -> Scan
     ensures begin { result.begin ≡ domain.origin }
 {
     let raise = domain.window - 1;
+    let value = Residues {
+        first: domain.value,
+        second: raise,
+        modulus: domain.modulus,
+    };
     let within = Within {
         arc: Arc {
             modulus: domain.modulus,
-            value: add(domain.value, raise, domain.modulus),
+            value: value.sum(),
             slope: domain.slope,
             curve: domain.curve,
             count: domain.count,

@@ -7,7 +7,7 @@ ghost use Rattle.arc.specs.Arc.{parabola};
 ghost use Rattle.domain.specs.Scan.{PointBelow, next_point, listed_from, lowered_values};
 
 use arc::{Point, Within};
-use numbers::{add, remainder, subtract};
+use numbers::{Residues, remainder};
 
 // An arc to be scanned: its argument x is listed as begin + x, and its value as it was before the
 // arc was raised.
@@ -33,14 +33,24 @@ fn next(point: Point, second: u64, modulus: u64) -> Point
             slope: point.slope,
         };
     }
+    let value = Residues {
+        first: point.value,
+        second: point.slope,
+        modulus,
+    };
+    let slope = Residues {
+        first: point.slope,
+        second,
+        modulus,
+    };
     Point {
-        value: add(point.value, point.slope, modulus),
-        slope: add(point.slope, second, modulus),
+        value: value.sum(),
+        slope: slope.sum(),
     }
 }
 
 // a + b modulo M where b stays as it is in a loop: what the modulus exceeds it by is known before a
-// is, and the test need not wait for the sum, as in `add`.
+// is, and the test need not wait for the sum, as in `Residues::sum`.
 fn add_fixed(a: u64, b: u64, modulus: u64) -> u64
     requires { (a < modulus) × (b < modulus) × (modulus ≤ 2 ^ 62) }
     ensures { result ≡ (a + b) % modulus }
@@ -102,8 +112,13 @@ impl Scan {
             let value = point.value;
             point = next(point, second, arc.modulus);
             if value <= arc.highest {
+                let lowered = Residues {
+                    first: value,
+                    second: self.raise,
+                    modulus: arc.modulus,
+                };
                 list[at] = x;
-                values[at] = subtract(value, self.raise, arc.modulus);
+                values[at] = lowered.difference();
                 at += 1;
             }
             x += 1;

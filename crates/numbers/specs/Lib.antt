@@ -7,4 +7,3 @@ pub mod Checklist
 pub mod Refusals
 pub mod Unit
 pub mod Promise
-pub mod Modular

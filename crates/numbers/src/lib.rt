@@ -5,7 +5,6 @@
 
 ghost use Rattle.std.specs.Prelude.{◌≡◌, ◌+◌, ◌-◌, ◌%◌, ◌^◌, ◌<◌, ◌≤◌, min, nat_abs};
 ghost use Rattle.numbers.specs.Integers.{◌modulo◌};
-ghost use Rattle.numbers.specs.Modular.{sum_modulo, difference_modulo};
 
 mod refusals;
 
@@ -72,30 +71,37 @@ pub fn saturating_sub(a: u64, b: u64) -> u64
     a - b
 }
 
-// a + b modulo M, of two numbers below M, which is at most 2^62: then nothing wraps. Of others it
-// is the sum on the word, less M where it is not below M. No test is left to the caller.
-#[tactic(auto, unfolding(crate::specs::Modular::sum_modulo))]
-pub fn add(a: u64, b: u64, modulus: u64) -> u64
-    ensures value { result ≡ sum_modulo a b modulus }
-    ensures sum { (a < modulus) × (b < modulus) × (modulus ≤ 2 ^ 62) → result ≡ (a + b) % modulus }
-{
-    let sum = a.wrapping_add(b);
-    if sum < modulus {
-        return sum;
-    }
-    sum - modulus
+// Two numbers below a modulus of at most 2^62, whose sum and difference modulo it need no test.
+#[derive(Clone, Copy)]
+pub struct Residues {
+    pub first: u64,
+    pub second: u64,
+    pub modulus: u64,
+    pub ghost first_below: { first < modulus },
+    pub ghost second_below: { second < modulus },
+    pub ghost modulus_high: { modulus ≤ 2 ^ 62 },
 }
 
-// a - b modulo M, of two numbers below M: then nothing wraps. Of others it is the difference, or M
-// less what b exceeds a by, on the word. Where b is known to be 0, the compiler sees that there is
-// nothing to do.
-#[tactic(auto, unfolding(crate::specs::Modular::difference_modulo))]
-pub fn subtract(a: u64, b: u64, modulus: u64) -> u64
-    ensures value { result ≡ difference_modulo a b modulus }
-    ensures difference { (a < modulus) × (b < modulus) → result ≡ (a + (modulus - b)) % modulus }
-{
-    if b <= a {
-        return a - b;
+impl Residues {
+    // first + second modulo the modulus.
+    pub fn sum(self) -> u64
+        ensures { result ≡ (self.first + self.second) % self.modulus }
+    {
+        let sum = self.first + self.second;
+        if sum < self.modulus {
+            return sum;
+        }
+        sum - self.modulus
     }
-    modulus.wrapping_sub(b - a)
+
+    // first - second modulo the modulus. Where the second is known to be 0, the compiler sees that
+    // there is nothing to do.
+    pub fn difference(self) -> u64
+        ensures { result ≡ (self.first + (self.modulus - self.second)) % self.modulus }
+    {
+        if self.second <= self.first {
+            return self.first - self.second;
+        }
+        self.modulus - (self.second - self.first)
+    }
 }

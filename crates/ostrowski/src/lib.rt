@@ -8,7 +8,7 @@ ghost use Rattle.std.specs.Prelude.{◌≡◌, ◌+◌, ◌-◌, ◌*◌, ◌%�
 ghost use Rattle.ostrowski.specs.Answer.{digits_answer, residue_answer, divide_answer};
 
 use expansion::Table;
-use numbers::Refusal;
+use numbers::{Refusal, Residues};
 
 // The digits of an argument from row 0 on and zeros after them, and how many they are. An array of a
 // fixed size with a count: the product's rules give the answer 88 places, and no call takes a heap.
@@ -67,7 +67,12 @@ pub fn residue(modulus: u64, step: u64, argument: u64) -> Result<u64, Refusal>
         let denominator = denominators[row];
         let term = rest / denominator * remainders[row];
         rest %= denominator;
-        residue = numbers::subtract(term, residue, modulus);
+        let left = Residues {
+            first: term,
+            second: residue,
+            modulus,
+        };
+        residue = left.difference();
     }
     Ok(residue)
 }

@@ -24,11 +24,18 @@ pub overflow_mul-term : goal.overflow_mul-term
 overflow_mul-term c =
     let h = term_fits c.loop-row.invariant c.loop-row-test.true in omega arith
 
+pub invariant_of-left : goal.invariant_of-left
+invariant_of-left c =
+    let i = c.loop-row.invariant in
+    record {
+      first_below = term_fits i c.loop-row-test.true;
+      second_below = residue_below i;
+      modulus_high = i.taking.table.accepted.most;
+    }
+
 pub loop-row-preserved : goal.loop-row-preserved
 loop-row-preserved c =
-    let i = c.loop-row.invariant in
-    rw (c.subtract-residue.ensures.difference (term_fits i c.loop-row-test.true, residue_below i))
-    (reducing_next i c.loop-row-test.true)
+    rw c.difference-residue.ensures (reducing_next c.loop-row.invariant c.loop-row-test.true)
 
 pub returns : goal.returns
 unfolding residue_answer

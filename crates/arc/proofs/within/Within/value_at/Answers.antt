@@ -21,18 +21,30 @@ overflow_cast-triangle c = rw (triangle_square c.args.x) (record { sfits = omega
 pub overflow_mul-arc : goal.overflow_mul-arc
 overflow_mul-arc c = rw (triangle_square c.args.x) (arc_fits c.args.self.in_range _ c.requires)
 
+pub invariant_of-along : goal.invariant_of-along
+invariant_of-along c =
+    let r = c.args.self.in_range in
+    record {
+      first_below = r.value_below;
+      second_below = rw c.times.ensures (mod-lt _ (positive r));
+      modulus_high = r.unit_within.1;
+    }
+
+pub invariant_of-value : goal.invariant_of-value
+invariant_of-value c =
+    let r = c.args.self.in_range in
+    record {
+      first_below = rw c.sum.ensures (mod-lt _ (positive r));
+      second_below = rw c.remainder.ensures (mod_below (positive r) _);
+      modulus_high = r.unit_within.1;
+    }
+
 pub returns : goal.returns
 returns c =
-    let r = c.args.self.in_range in
-    let p = positive r in
-    let along =
-    c.add-along.ensures.sum
-    (r.value_below, rw c.times.ensures (mod-lt _ p), r.unit_within.1) in
     rw (
-      c.add.ensures.sum
-          (rw along (mod-lt _ p), rw c.remainder-bent.ensures (mod_below p _), r.unit_within.1),
-      c.remainder-bent.ensures,
-      along,
+      c.sum-2.ensures,
+      c.remainder.ensures,
+      c.sum.ensures,
       c.times.ensures,
       triangle_square c.args.x,
       arc_read c.args.self.in_range c.args.x c.requires,
