@@ -1,10 +1,11 @@
 -- Quotients and remainders: how large a quotient is, what a division makes of s + v·k, when two numbers leave the same remainder, and differences modulo a number.
 -- Assumes nothing.
 use mathlib.Core.Path.{◌≡◌, sym, ◌∙◌, subst}
-use Prim.Native.Nat.{ℕ, ◌+◌, ◌*◌, ◌-◌, ◌/◌, ◌%◌, ◌≤◌, ◌<◌, ◌∣◌}
-use native.Mathlib.Nat.{le-div_iff_mul-le, mul-div_cancel, mul-mod_left, div-add-mod', mul-le-mul_right, dvd-mul_left, dvd-sub, dvd_iff_mod-eq-zero, add-mod, add-mod_right, add-mul-div_right, add-mul-mod_self_right, div-eq_of_lt, mod-mod, mod-eq_of_lt, add-zero, lt_of_not-le}
+use Prim.Native.Nat.{ℕ, zero, suc, ◌+◌, ◌*◌, ◌-◌, ◌/◌, ◌%◌, ◌≤◌, ◌<◌, ◌∣◌, min}
+use native.Mathlib.Nat.{le-div_iff_mul-le, mul-div_cancel, mul-mod_left, div-add-mod', mul-le-mul_right, dvd-mul_left, dvd-sub, dvd_iff_mod-eq-zero, add-mod, add-mod_right, add-mul-div_right, add-mul-mod_self_right, div-eq_of_lt, mod-mod, mod-eq_of_lt, mod-lt, mod-zero, add-zero, lt_of_not-le}
 use native.Mathlib.Omega.{arith}
 use lib.Arith.{mod-mul}
+use Rattle.numbers.proofs.Congruences.{is_remainder}
 
 -- a number is at least once in a number that is not smaller
 pub quotient_positive : (t u : ℕ) → 0 < u → u ≤ t → 1 ≤ t / u
@@ -52,3 +53,18 @@ module _ (m n k : ℕ) where
       let e : n + (m - k) ≡ m - (k - n) = omega arith in
       let s : m - (k - n) < m = omega arith in
       sym (rw e (mod-eq_of_lt s))
+
+-- n - k modulo m of any two numbers, by the remainder of n; where k is beyond m it counts as m
+pub subtracted_within : (m n k : ℕ) {r s : ℕ} → r ≡ n % m → s ≡ min k m → s ≤ r
+    → r - s ≡ (n + (m - k)) % m
+subtracted_within zero n k e f h = omega (arith, mod-zero n, mod-zero (n + (0 - k)))
+subtracted_within (suc m) n k e f h =
+    let below : n % suc m < suc m = mod-lt n (omega arith) in
+    is_remainder (omega arith)
+    (record { over = n / suc m + 1; under = 0; equal = omega (arith, div-add-mod' n (suc m)) })
+
+pub subtracted_around : (m n k : ℕ) {r s : ℕ} → r ≡ n % m → s ≡ min k m → r < s
+    → m - (s - r) ≡ (n + (m - k)) % m
+subtracted_around m n k e f h =
+    is_remainder (omega arith)
+    (record { over = n / m; under = 0; equal = omega (arith, div-add-mod' n m) })

@@ -71,6 +71,19 @@ pub fn saturating_sub(a: u64, b: u64) -> u64
     a - b
 }
 
+// a - b modulo M, of any three numbers; M may be beyond 2^62. A number b beyond M counts as M, and
+// modulo 0 the answer is a. The difference of `Residues` needs neither of the first two lines.
+pub fn subtract(a: u64, b: u64, modulus: u64) -> u64
+    ensures { result ≡ (a + (modulus - b)) % modulus }
+{
+    let a = reduce(a, modulus);
+    let b = min(b, modulus);
+    if b <= a {
+        return a - b;
+    }
+    modulus - (b - a)
+}
+
 // Two numbers below a modulus of at most 2^62, whose sum and difference modulo it need no test.
 #[derive(Clone, Copy)]
 pub struct Residues {
@@ -103,5 +116,33 @@ impl Residues {
             return self.first - self.second;
         }
         self.modulus - (self.second - self.first)
+    }
+}
+
+#[cfg(test)]
+mod tests {
+    use super::*;
+
+    // Rows of a, b, M, and a - b modulo M.
+    #[test]
+    fn subtracts() -> Result<(), &'static str> {
+        let cases = [
+            (31, 14, 45, 17),
+            (14, 31, 45, 28),
+            (31, 31, 45, 0),
+            (100, 14, 45, 41),
+            (100, 46, 45, 10),
+            (7, 3, 0, 7),
+            (0, 1 << 62, (1 << 62) + 1, 1),
+            (0, u64::MAX - 1, u64::MAX, 1),
+            (u64::MAX - 1, 0, u64::MAX, u64::MAX - 1),
+            (3, 1 << 63, u64::MAX, (1 << 63) + 2),
+        ];
+        for (a, b, modulus, want) in cases {
+            if subtract(a, b, modulus) != want {
+                return Err("a - b modulo M is not what its row says");
+            }
+        }
+        Ok(())
     }
 }
