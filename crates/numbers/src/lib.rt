@@ -123,7 +123,7 @@ impl Residues {
 mod tests {
     use super::*;
 
-    // Rows of a, b, M, and a - b modulo M.
+    // Rows of a, b, M, and what `subtract` answers.
     #[test]
     fn subtracts() -> Result<(), &'static str> {
         let cases = [
