@@ -2,7 +2,7 @@
 -- Assumes nothing.
 use mathlib.Core.Path.{◌≡◌, sym, ◌∙◌, subst}
 use Prim.Native.Nat.{ℕ, zero, suc, ◌+◌, ◌*◌, ◌-◌, ◌/◌, ◌%◌, ◌≤◌, ◌<◌, ◌∣◌, min}
-use native.Mathlib.Nat.{le-div_iff_mul-le, mul-div_cancel, mul-mod_left, div-add-mod', mul-le-mul_right, dvd-mul_left, dvd-sub, dvd_iff_mod-eq-zero, add-mod, add-mod_right, add-mul-div_right, add-mul-mod_self_right, div-eq_of_lt, mod-mod, mod-eq_of_lt, mod-lt, mod-zero, add-zero, lt_of_not-le}
+use native.Mathlib.Nat.{le-div_iff_mul-le, mul-div_cancel, mul-mod_left, div-add-mod', mul-le-mul_right, dvd-mul_left, dvd-sub, dvd_iff_mod-eq-zero, add-mod, add-mul-div_right, add-mul-mod_self_right, div-eq_of_lt, mod-mod, mod-eq_of_lt, mod-lt, mod-zero, add-zero, lt_of_not-le}
 use native.Mathlib.Omega.{arith}
 use lib.Arith.{mod-mul}
 use Rattle.numbers.proofs.Congruences.{is_remainder}
@@ -40,20 +40,6 @@ module _ (m n k : ℕ) where
       let z : k % m ≡ 0 = (dvd_iff_mod-eq-zero m).0 d in
       add-mod n k m ∙ rw (z, add-zero) (mod-mod n m)
 
--- n - k modulo m, both below m: the difference, or m less what k exceeds n by
-module _ (m n k : ℕ) where
-  pub difference_within : n < m → k ≤ n → n - k ≡ (n + (m - k)) % m
-  difference_within l h =
-      let e : n + (m - k) ≡ n - k + m = omega arith in
-      let s : n - k < m = omega arith in
-      sym (rw (e, add-mod_right) (mod-eq_of_lt s))
-
-  pub difference_around : k < m → n < k → m - (k - n) ≡ (n + (m - k)) % m
-  difference_around l h =
-      let e : n + (m - k) ≡ m - (k - n) = omega arith in
-      let s : m - (k - n) < m = omega arith in
-      sym (rw e (mod-eq_of_lt s))
-
 -- n - k modulo m of any two numbers, by the remainder of n; where k is beyond m it counts as m
 pub subtracted_within : (m n k : ℕ) {r s : ℕ} → r ≡ n % m → s ≡ min k m → s ≤ r
     → r - s ≡ (n + (m - k)) % m
@@ -68,3 +54,13 @@ pub subtracted_around : (m n k : ℕ) {r s : ℕ} → r ≡ n % m → s ≡ min 
 subtracted_around m n k e f h =
     is_remainder (omega arith)
     (record { over = n / m; under = 0; equal = omega (arith, div-add-mod' n m) })
+
+-- and of two below m: the difference, or m less what k exceeds n by
+module _ (m n k : ℕ) where
+  pub difference_within : n < m → k ≤ n → n - k ≡ (n + (m - k)) % m
+  difference_within l h = subtracted_within m n k (sym (mod-eq_of_lt l)) (omega arith) h
+
+  pub difference_around : k < m → n < k → m - (k - n) ≡ (n + (m - k)) % m
+  difference_around l h =
+      let e : n % m ≡ n = mod-eq_of_lt (omega arith) in
+      subtracted_around m n k (sym e) (omega arith) h
